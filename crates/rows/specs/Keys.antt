@@ -1,0 +1,29 @@
+-- The keys of a table's rows, the place of a key among them, and a row put in its place.
+-- Assumes nothing.
+use Prim.Native.Nat.{ℕ, zero, suc, _^_}
+use mathlib.Core.List.{List, [], _∷_, _++_, reverse}
+use lib.ListN.{getD, take, drop}
+use lib.Dec.{leb, ltb}
+use Rattle.base.specs.Logic.{pick, keep}
+use Rattle.base.specs.Bytes.{number}
+
+-- the key of a row of words: its first word, or its first four as one number, the highest word first
+abbrev pub firstWord : List ℕ → ℕ
+firstWord t = getD t 0 0
+
+unfoldable pub firstFour : List ℕ → ℕ
+firstFour t = number (2 ^ 64) (reverse (take 4 t))
+
+-- the keys of the first n rows of w words
+unfoldable pub keys : (List ℕ → ℕ) → ℕ → ℕ → List ℕ → List ℕ
+keys key w zero t = []
+keys key w (suc n) t = key t ∷ keys key w n (drop w t)
+
+-- how many keys stand before the first that is not below i
+unfoldable pub place : ℕ → List ℕ → ℕ
+place i [] = 0
+place i (k ∷ ks) = pick (ltb k i) (suc (place i ks)) 0
+
+-- other rows put between the rows whose keys are below lo and those whose keys are at least hi
+unfoldable pub putRows : {E : Type 0} → (E → ℕ) → ℕ → ℕ → List E → List E → List E
+putRows key lo hi new es = keep (λ e. ltb (key e) lo) es ++ (new ++ keep (λ e. leb hi (key e)) es)
