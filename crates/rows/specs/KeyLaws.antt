@@ -1,7 +1,7 @@
 -- Laws of the place of a key among keys in order, and of rows put there.
 -- Assumes nothing.
 use mathlib.Core.Path.{_≡_, refl, sym, ap, _∙_}
-use mathlib.Core.Bool.{true}
+use mathlib.Core.Bool.{true, false}
 use mathlib.Core.List.{List, [], _∷_, _++_, map}
 use Prim.Native.Nat.{ℕ, zero, suc, _+_, _*_, _-_, _≤_, _<_, zero-le, suc-le-suc}
 use native.Mathlib.Nat.{suc-mul, zero-mul}
@@ -15,7 +15,7 @@ use Rattle.base.specs.Logic.{pick, keep, ascendingFrom, sortedFrom}
 use Rattle.base.specs.Laws.{and-left, and-right, and-both, sorted-head, sorted-tail, ascending-head, ascending-tail}
 use Rattle.rows.specs.Table.{Coding, rowsOf}
 use Rattle.rows.specs.TableLaws.{length-rowsOf}
-use Rattle.rows.specs.Keys.{keys, place, putRows}
+use Rattle.rows.specs.Keys.{keys, firstWord, place, putRows}
 
 -- ---- the place
 pub place-lt : (i k : ℕ) (ks : List ℕ) → k < i → place i (k ∷ ks) ≡ suc (place i ks)
@@ -108,6 +108,36 @@ module _ (i : ℕ) (ks : List ℕ) (k : ℕ) (here : k ≡ place i ks) where
       let g : i ≤ getD ks k 0 = rw here (place-at i ks (omega arith)) in
       omega (arith, place-down (suc i) ks k l (omega (arith, e)), place-mono i (suc i) ks (omega arith))
 
+-- ---- a test of neighbour after neighbour: the keys ascend exactly where those from key i on do
+pub ascend-start : (ks : List ℕ) → ascendingFrom 0 ks ≡ ascendingFrom (getD ks 0 0) (drop 0 ks)
+unfolding ascendingFrom
+ascend-start [] = refl
+ascend-start (k ∷ ks) = rw (le-leb 0 k (omega arith), le-leb k k (omega arith))
+
+pub ascend-next : (ks : List ℕ) (i : ℕ) → suc i < length ks → getD ks i 0 < getD ks (suc i) 0
+    → ascendingFrom (getD ks i 0) (drop i ks) ≡ ascendingFrom (getD ks (suc i) 0) (drop (suc i) ks)
+unfolding ascendingFrom
+ascend-next [] i l h = absurd (omega arith)
+ascend-next (k ∷ []) zero l h = absurd (omega arith)
+ascend-next (k ∷ x ∷ ks) zero l h = rw (le-leb k k (omega arith), le-leb (suc k) x h, le-leb x x (omega arith))
+ascend-next (k ∷ ks) (suc i) l h = ascend-next ks i (omega arith) h
+
+pub ascend-not : (ks : List ℕ) (i : ℕ) → suc i < length ks → getD ks (suc i) 0 ≤ getD ks i 0
+    → ascendingFrom (getD ks i 0) (drop i ks) ≡ false
+unfolding ascendingFrom
+ascend-not [] i l h = absurd (omega arith)
+ascend-not (k ∷ []) zero l h = absurd (omega arith)
+ascend-not (k ∷ x ∷ ks) zero l h = rw (le-leb k k (omega arith), lt-leb (suc k) x (omega arith))
+ascend-not (k ∷ ks) (suc i) l h = ascend-not ks i (omega arith) h
+
+pub ascend-end : (ks : List ℕ) (i : ℕ) → length ks ≤ suc i → ascendingFrom (getD ks i 0) (drop i ks) ≡ true
+unfolding ascendingFrom
+ascend-end [] zero h = refl
+ascend-end [] (suc i) h = refl
+ascend-end (k ∷ []) zero h = rw (le-leb k k (omega arith))
+ascend-end (k ∷ x ∷ ks) zero h = absurd (omega arith)
+ascend-end (k ∷ ks) (suc i) h = ascend-end ks i (omega arith)
+
 -- ---- the keys of a table
 module _ (key : List ℕ → ℕ) (w : ℕ) where
   pub length-keys : (n : ℕ) (t : List ℕ) → length (keys key w n t) ≡ n
@@ -122,6 +152,10 @@ module _ (key : List ℕ → ℕ) (w : ℕ) where
   key-at (suc n) t (suc k) h =
       let q : w + k * w ≡ suc k * w = omega (arith, suc-mul k w) in
       key-at n (drop w t) k (omega arith) ∙ rw (drop-drop (k * w) w t, q)
+
+-- the first word of row k
+pub word-at : (w n : ℕ) (t : List ℕ) (k : ℕ) → k < n → getD (keys firstWord w n t) k 0 ≡ getD t (k * w) 0
+word-at w n t k h = key-at firstWord w n t k h ∙ getD-drop (k * w) t 0 0 ∙ ap (λ (i : ℕ). getD t i 0) (omega arith)
 
 -- they are the keys of its rows
 pub keys-rowsOf : {E : Type 0} (c : Coding E) (key : E → ℕ) (word : List ℕ → ℕ) → ((t : List ℕ) → key (c .dec t) ≡ word t)

@@ -15,13 +15,17 @@ use Rattle.base.specs.Laws.{and-left, and-right, and-both, flat-append, drop-ze
 use Rattle.rows.specs.Table.{Coding, rowsOf, tableOf, holdsRows, Laid}
 
 -- ---- the first w words of a list, one by one: what a coding of width w reads and writes
-words-from : (w p : ℕ) (t : List ℕ) → p + w ≤ length t → map (λ i. getD t i 0) (from p w) ≡ take w (drop p t)
+pub words-from : (w p : ℕ) (t : List ℕ) → p + w ≤ length t → map (λ i. getD t i 0) (from p w) ≡ take w (drop p t)
 unfolding from
 words-from zero p t h = refl
 words-from (suc w) p t h = rw (drop-cons t p 0 (omega arith)) (ap (λ (l : List ℕ). getD t p 0 ∷ l) (words-from w (suc p) t (omega arith)))
 
 pub first-words : (w : ℕ) (t : List ℕ) → w ≤ length t → map (λ i. getD t i 0) (from 0 w) ≡ take w t
 first-words w t h = words-from w 0 t (omega arith)
+
+-- ---- row k of n lies within their words
+pub row-fits : (w n k : ℕ) → k < n → k * w + w ≤ n * w
+row-fits w n k h = rw (← suc-mul k w) (mul-le-mul-right w h)
 
 -- ---- the test and the facts
 pub holds-laid : (w n : ℕ) (t : List ℕ) → holdsRows w n t ≡ true → Laid w n t
