@@ -4,6 +4,7 @@ pub mod Keys
 pub mod Wide
 pub mod TableLaws
 pub mod KeyLaws
+pub mod MoveLaws
 pub mod PutLaws
 pub mod WideLaws
 pub mod Open

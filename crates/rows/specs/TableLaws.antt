@@ -1,15 +1,16 @@
 -- Laws of a table of rows of any width: its rows, cut at a place, are parts of its words.
 -- Assumes nothing.
 use mathlib.Core.Path.{_≡_, refl, sym, ap, _∙_}
-use mathlib.Core.Bool.{true, _&&_}
+use mathlib.Core.Bool.{true, false, _&&_}
 use mathlib.Core.List.{List, [], _∷_, _++_, map, append-assoc, append-nil}
-use Prim.Native.Nat.{ℕ, zero, suc, _+_, _*_, _-_, _≤_, _<_}
-use native.Mathlib.Nat.{suc-mul, zero-mul, add-mul, mul-le-mul-right, sub-zero}
+use Prim.Native.Nat.{ℕ, zero, suc, _+_, _*_, _-_, _/_, _≤_, _<_}
+use native.Mathlib.Nat.{div-lt-iff-lt-mul, suc-mul, zero-mul, add-mul, mul-le-mul-right, sub-zero}
 use native.Mathlib.Omega.{arith}
 use lib.ListN.{length, take, drop, getD, length-append, length-drop, take-append-drop, length-replicate, replicate-append-replicate}
 use lib.Seq.{drop-cons, drop-drop, drop-at, take-add, length-take-le}
 use lib.Dec.{leb}
-use borrow.Author.Tests.{le-leb, leb-true}
+use native.Mathlib.Decide.{decLe}
+use borrow.Author.Tests.{le-leb, lt-leb, leb-true}
 use Rattle.base.specs.Logic.{flat, from, zeros, allZero}
 use Rattle.base.specs.Laws.{and-left, and-right, and-both, flat-append, drop-zeros, zeros-allZero, allZero-zeros}
 use Rattle.rows.specs.Table.{Coding, rowsOf, tableOf, holdsRows, Laid}
@@ -41,6 +42,22 @@ unfolding holdsRows
 laid-holds w n t l =
     and-both (leb (n * w) (length t)) (allZero (drop (n * w) t)) (le-leb (n * w) (length t) (l .fits))
     (ap allZero (l .rest) ∙ zeros-allZero (length t - n * w))
+
+-- ---- room for n rows, by a quotient: n may be any number
+pub rows-over : (w n : ℕ) (t : List ℕ) → 0 < w → length t / w < n → holdsRows w n t ≡ false
+unfolding holdsRows
+rows-over w n t p h = rw (lt-leb (n * w) (length t) (div-lt-iff-lt-mul p .0 h))
+
+pub rows-fit : (w n : ℕ) (t : List ℕ) → 0 < w → n ≤ length t / w → n * w ≤ length t
+rows-fit w n t p h =
+    elim (decLe (n * w) (length t)) [
+      | yes k ↦ k
+      | no k ↦ absurd (omega (arith, div-lt-iff-lt-mul {k = w} {x = length t} {y = n} p .1 (omega arith)))
+    ]
+
+pub rows-test : (w n : ℕ) (t : List ℕ) → n * w ≤ length t → allZero (drop (n * w) t) ≡ holdsRows w n t
+unfolding holdsRows
+rows-test w n t h = rw (le-leb (n * w) (length t) h)
 
 -- behind the rows there are zeros from any place on
 pub zeros-from : (w n : ℕ) (t : List ℕ) → Laid w n t → (m : ℕ) → n * w ≤ m → drop m t ≡ zeros (length t - m)

@@ -3,10 +3,12 @@
 // A row's key is its first word, or its first four words as one number, the highest word first.
 ghost use mathlib.Core.Path.{_≡_};
 ghost use mathlib.Core.Bool.{true};
-ghost use Prim.Native.Nat.{_+_, _*_, _≤_, _<_};
-ghost use lib.ListN.{length, drop};
+ghost use mathlib.Core.List.{_++_};
+ghost use Prim.Native.Nat.{_+_, _*_, _-_, _≤_, _<_};
+ghost use lib.ListN.{length, take, drop};
 ghost use lib.Dec.{ltb};
-ghost use Rattle.base.specs.Logic.{sortedFrom, ascendingFrom};
+ghost use Rattle.base.specs.Logic.{zeros, sortedFrom, ascendingFrom};
+ghost use Rattle.rows.specs.Table.{holdsRows};
 ghost use Rattle.rows.specs.Keys.{keys, firstWord, firstFour, place};
 ghost use Rattle.rows.specs.Wide.{keyOf};
 
@@ -101,4 +103,33 @@ pub fn ascend_wide(t: &[u64], w: usize, n: usize) -> bool
         i += 1;
     }
     true
+}
+
+// Whether the table has room for n rows, and nothing but zeros stands behind them. n may be any number.
+pub fn holds_rows(t: &[u64], w: usize, n: usize) -> bool
+    requires { ⌜ 0 < w ⌝ }
+    ensures { λ r. ⌜ r ≡ holdsRows w n (now (t .entry)) ⌝ }
+{
+    if t.len() / w < n {
+        return false;
+    }
+    slices::words::zero_from(t, n * w)
+}
+
+// The row goes in at index `at`: the words from there to `end` move up, over as many words behind `end`.
+pub fn insert_row(t: &mut [u64], at: usize, end: usize, row: &[u64])
+    requires { ⌜ (at ≤ end) × (end + length (now row) ≤ length (now t)) ⌝ }
+    ensures { λ _. ⌜ now (t .exit) ≡ take at (now (t .entry)) ++ (now (row .entry) ++ (take (end - at) (drop at (now (t .entry))) ++ drop (end + length (now (row .entry))) (now (t .entry)))) ⌝ }
+{
+    slices::words::move_up(t, at, at + row.len(), end - at);
+    slices::words::copy_at(t, at, row);
+}
+
+// The w words at index `at` go: the words behind them to `end` move down, and zeros take the places that this frees.
+pub fn remove_row(t: &mut [u64], at: usize, end: usize, w: usize)
+    requires { ⌜ (at + w ≤ end) × (end ≤ length (now t)) ⌝ }
+    ensures { λ _. ⌜ now (t .exit) ≡ take at (now (t .entry)) ++ (take (end - (at + w)) (drop (at + w) (now (t .entry))) ++ (zeros w ++ drop end (now (t .entry)))) ⌝ }
+{
+    slices::words::move_down(t, at + w, at, end - (at + w));
+    slices::words::fill(t, end - w, w, 0);
 }

@@ -2,19 +2,14 @@ use native.Mathlib.Nat.{mul-le-mul-right, mul-lt-mul-of-pos-right, le-mul-of-pos
 use Rattle.base.specs.Logic.{ascendingFrom}
 use Rattle.rows.specs.Keys.{keys, firstWord}
 use Rattle.rows.specs.KeyLaws.{length-keys, word-at, ascend-start, ascend-next, ascend-not, ascend-end}
-use mathlib.Core.Path.{_≡_, refl, sym, ap, _∙_}
-use mathlib.Core.List.{List, [], _∷_, _++_}
-use mathlib.Core.Bool.{Bool, true, false}
-use Prim.Native.Nat.{ℕ, zero, suc, _+_, _-_, _*_, _≤_, _<_}
+use mathlib.Core.Path.{_≡_, sym, _∙_}
+use Prim.Native.Nat.{suc, _+_, _-_, _*_, _≤_, _<_}
 use native.Mathlib.Omega.{arith}
 use native.Mathlib.Numerals.{add-one}
 use borrow.Author.Needs.{needs}
-use borrow.Author.Tests.{le-ltb, lt-ltb, le-leb, lt-leb, eq-eqb, ne-eqb}
-use lib.ListN.{length, take, drop, getD, set, length-set, length-drop}
+use lib.ListN.{drop, getD}
 use Rattle.rows.proofs.ascend.Statement.{statement}
 use Rattle.rows.proofs.ascend.Tie as tie
-use Rattle.rows.proofs.ascend.Reads as reads
-use Rattle.rows.proofs.ascend.Lts as lts
 
 abbrev Inv-loop : tie.InvT-loop
 Inv-loop t w n i₀ i = (i ≤ n) × (ascendingFrom 0 (keys firstWord w n t) ≡ ascendingFrom (getD (keys firstWord w n t) i 0) (drop i (keys firstWord w n t)))
@@ -29,43 +24,33 @@ bound c = mul-lt-mul-of-pos-right (omega arith) (c .before .before .pre .0)
 bound-low : (c : tie.In-loop Inv-loop μ-loop) → c .before .loop .i * c .before .before .args .w ≤ (c .before .loop .i + 1) * c .before .before .args .w
 bound-low c = mul-le-mul-right (c .before .before .args .w) (omega arith)
 
--- src/lib.rt:82:5
 loop-holds : tie.Need-loop-holds Inv-loop μ-loop
 loop-holds c = (omega arith, ascend-start (keys firstWord (c .args .w) (c .args .n) (c .args .t .now)))
 
--- src/lib.rt:82:11
 add-loop : tie.Need-add-loop Inv-loop μ-loop
 add-loop c = omega (arith, le-mul-of-pos-right (c .before .args .n) (c .before .pre .0))
 
--- src/lib.rt:83:15
 add-if1 : tie.Need-add-if1 Inv-loop μ-loop
 add-if1 c = search needs
 
--- src/lib.rt:83:14
 mul-if1 : tie.Need-mul-if1 Inv-loop μ-loop
 mul-if1 c = omega (arith, bound c)
 
--- src/lib.rt:83:12
 mul-if1-2 : tie.Need-mul-if1-2 Inv-loop μ-loop
 mul-if1-2 c = omega (arith, bound c)
 
--- src/lib.rt:83:12
 shared-slice-read-if1 : tie.Need-shared-slice-read-if1 Inv-loop μ-loop
 shared-slice-read-if1 c = omega (arith, bound (c .before))
 
--- src/lib.rt:83:32
 mul-if1-3 : tie.Need-mul-if1-3 Inv-loop μ-loop
 mul-if1-3 c = omega (arith, bound (c .before), bound-low (c .before))
 
--- src/lib.rt:83:30
 mul-if1-4 : tie.Need-mul-if1-4 Inv-loop μ-loop
 mul-if1-4 c = omega (arith, bound (c .before), bound-low (c .before))
 
--- src/lib.rt:83:30
 shared-slice-read-if1-2 : tie.Need-shared-slice-read-if1-2 Inv-loop μ-loop
 shared-slice-read-if1-2 c = omega (arith, bound (c .before .before), bound-low (c .before .before))
 
--- src/lib.rt:84:13
 returns : tie.Need-returns Inv-loop μ-loop
 returns c =
     let l = c .before .before .before .before .loop in
@@ -77,15 +62,12 @@ returns c =
     let k : getD (a .t .now) (suc (l .i) * a .w) 0 ≤ getD (a .t .now) (l .i * a .w) 0 = rw add-one at (c .if1 .taken) in
     sym (l .inv .1 ∙ ascend-not ks (l .i) (omega arith) (omega arith))
 
--- src/lib.rt:86:9
 add-i : tie.Need-add-i Inv-loop μ-loop
 add-i c = search needs
 
--- src/lib.rt:82:5
 loop-less : tie.Need-loop-less Inv-loop μ-loop
 loop-less c = search needs
 
--- src/lib.rt:82:5
 loop-again : tie.Need-loop-again Inv-loop μ-loop
 loop-again c =
     let l = c .before .before .before .before .loop in
@@ -97,7 +79,6 @@ loop-again c =
     let k : getD (a .t .now) (l .i * a .w) 0 < getD (a .t .now) (suc (l .i) * a .w) 0 = rw add-one at (c .if1 .left) in
     (omega arith, rw add-one (l .inv .1 ∙ ascend-next ks (l .i) (omega arith) (omega arith)))
 
--- src/lib.rt:77:1
 returns-2 : tie.Need-returns-2 Inv-loop μ-loop
 returns-2 c =
     let l = c .before .loop in

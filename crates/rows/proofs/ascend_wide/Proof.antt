@@ -5,21 +5,14 @@ use Rattle.rows.specs.Keys.{keys, firstFour}
 use Rattle.rows.specs.Wide.{keyOf}
 use Rattle.rows.specs.TableLaws.{row-fits}
 use Rattle.rows.specs.KeyLaws.{length-keys, key-at, ascend-start, ascend-next, ascend-not, ascend-end}
-use mathlib.Core.Path.{_≡_, refl, sym, ap, _∙_}
-use mathlib.Core.List.{List, [], _∷_, _++_}
-use mathlib.Core.Bool.{Bool, true, false}
-use Prim.Native.Nat.{ℕ, zero, suc, _+_, _-_, _*_, _≤_, _<_}
+use mathlib.Core.Path.{_≡_, sym, _∙_}
+use Prim.Native.Nat.{ℕ, suc, _+_, _-_, _*_, _≤_}
 use native.Mathlib.Omega.{arith}
 use native.Mathlib.Numerals.{add-one}
 use borrow.Author.Needs.{needs}
-use borrow.Author.Tests.{le-ltb, lt-ltb, le-leb, lt-leb, eq-eqb, ne-eqb}
-use lib.ListN.{length, take, drop, getD, set, length-set, length-drop}
+use lib.ListN.{drop, getD}
 use Rattle.rows.proofs.ascend_wide.Statement.{statement}
 use Rattle.rows.proofs.ascend_wide.Tie as tie
-use Rattle.rows.proofs.ascend_wide.Reads as reads
-use Rattle.rows.proofs.ascend_wide.Lts as lts
-use Rattle.rows.proofs.below.Reads as below-reads
-use Rattle.rows.proofs.wide_at.Reads as wide-at-reads
 
 abbrev Inv-loop : tie.InvT-loop
 Inv-loop t w n i₀ i = (i ≤ n) × (ascendingFrom 0 (keys firstFour w n t) ≡ ascendingFrom (getD (keys firstFour w n t) i 0) (drop i (keys firstFour w n t)))
@@ -32,39 +25,30 @@ bound : (c : tie.In-loop Inv-loop μ-loop) (k : ℕ) → k ≤ c .before .loop .
     → k * c .before .before .before .args .w + c .before .before .before .args .w ≤ c .before .before .before .args .n * c .before .before .before .args .w
 bound c k h = row-fits (c .before .before .before .args .w) (c .before .before .before .args .n) k (omega arith)
 
--- src/lib.rt:97:5
 loop-holds : tie.Need-loop-holds Inv-loop μ-loop
 loop-holds c = let a = c .before .args in (omega arith, ascend-start (keys firstFour (a .w) (a .n) (a .t .now)))
 
--- src/lib.rt:97:11
 add-loop : tie.Need-add-loop Inv-loop μ-loop
 add-loop c = omega (arith, le-mul-of-pos-right {m = c .before .before .args .w} (c .before .before .args .n) (omega arith))
 
--- src/lib.rt:98:30
 mul-wide-at : tie.Need-mul-wide-at Inv-loop μ-loop
 mul-wide-at c = omega (arith, bound c (c .before .loop .i) (omega arith))
 
--- src/lib.rt:98:19
 wide-at-requires : tie.Need-wide-at-requires Inv-loop μ-loop
 wide-at-requires c κs = omega (arith, bound c (c .before .loop .i) (omega arith))
 
--- src/lib.rt:98:50
 add-wide-at : tie.Need-add-wide-at Inv-loop μ-loop
 add-wide-at c = search needs
 
--- src/lib.rt:98:49
 mul-wide-at-2 : tie.Need-mul-wide-at-2 Inv-loop μ-loop
 mul-wide-at-2 c = omega (arith, bound (c .before) (c .before .before .loop .i + 1) (omega arith))
 
--- src/lib.rt:98:38
 wide-at-requires-2 : tie.Need-wide-at-requires-2 Inv-loop μ-loop
 wide-at-requires-2 c κs = omega (arith, bound (c .before) (c .before .before .loop .i + 1) (omega arith))
 
--- src/lib.rt:98:13
 below-requires : tie.Need-below-requires Inv-loop μ-loop
 below-requires c κs = search needs
 
--- src/lib.rt:99:13
 returns : tie.Need-returns Inv-loop μ-loop
 returns c =
     let l = c .before .before .before .before .before .loop in
@@ -78,15 +62,12 @@ returns c =
     let b = ltb-false (keyOf (c .before .before .before .wide-at .result)) (keyOf (c .before .before .wide-at2 .result)) (sym (c .before .below .ensures) ∙ not-true _ (c .if1 .taken)) in
     sym (l .inv .1 ∙ ascend-not ks (l .i) (omega arith) (omega arith))
 
--- src/lib.rt:101:9
 add-i : tie.Need-add-i Inv-loop μ-loop
 add-i c = search needs
 
--- src/lib.rt:97:5
 loop-less : tie.Need-loop-less Inv-loop μ-loop
 loop-less c = search needs
 
--- src/lib.rt:97:5
 loop-again : tie.Need-loop-again Inv-loop μ-loop
 loop-again c =
     let l = c .before .before .before .before .before .loop in
@@ -100,7 +81,6 @@ loop-again c =
     let b = ltb-true (keyOf (c .before .before .before .wide-at .result)) (keyOf (c .before .before .wide-at2 .result)) (sym (c .before .below .ensures) ∙ not-false _ (c .if1 .left)) in
     (omega arith, rw add-one (l .inv .1 ∙ ascend-next ks (l .i) (omega arith) (omega arith)))
 
--- src/lib.rt:92:1
 returns-2 : tie.Need-returns-2 Inv-loop μ-loop
 returns-2 c =
     let l = c .before .loop in

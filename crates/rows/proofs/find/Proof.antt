@@ -1,19 +1,11 @@
-use mathlib.Core.Path.{_≡_, refl, sym, ap, _∙_, subst}
-use mathlib.Core.List.{List, [], _∷_, _++_}
-use mathlib.Core.Bool.{Bool, true, false}
-use Prim.Native.Nat.{ℕ, zero, suc, _+_, _*_, _-_, _/_, _≤_, _<_}
+use Prim.Native.Nat.{_+_, _*_, _-_, _/_, _≤_, _<_}
 use native.Mathlib.Omega.{arith}
-use native.Mathlib.Numerals.{add-one}
 use borrow.Author.Needs.{needs}
-use borrow.Author.Tests.{le-ltb, lt-ltb, le-leb, lt-leb, eq-eqb, ne-eqb}
-use lib.ListN.{length, take, drop, getD, set, length-set, length-drop}
-use native.Mathlib.Nat.{mul-le-mul-right, mul-lt-mul-of-pos-right}
+use native.Mathlib.Nat.{mul-lt-mul-of-pos-right}
 use Rattle.rows.specs.Keys.{keys, firstWord, place}
 use Rattle.rows.specs.KeyLaws.{place-le, place-up, place-down, length-keys, word-at}
 use Rattle.rows.proofs.find.Statement.{statement}
 use Rattle.rows.proofs.find.Tie as tie
-use Rattle.rows.proofs.find.Reads as reads
-use Rattle.rows.proofs.find.Lts as lts
 
 abbrev Inv-loop : tie.InvT-loop
 Inv-loop t w n key lo₀ hi₀ lo hi = (lo ≤ place key (keys firstWord w n t)) × (place key (keys firstWord w n t) ≤ hi) × (hi ≤ n)
@@ -25,39 +17,30 @@ abbrev μ-loop : tie.MeasureT-loop
 bound : (c : tie.In-loop Inv-loop μ-loop) → (c .before .loop .lo + (c .before .loop .hi - c .before .loop .lo) / 2) * c .before .before .args .w < c .before .before .args .n * c .before .before .args .w
 bound c = mul-lt-mul-of-pos-right (omega arith) (c .before .before .pre .0)
 
--- src/lib.rt:16:5
 loop-holds : tie.Need-loop-holds Inv-loop μ-loop
 loop-holds c = omega (arith, place-le (c .args .key) (keys firstWord (c .args .w) (c .args .n) (c .args .t .now)), length-keys firstWord (c .args .w) (c .args .n) (c .args .t .now))
 
--- src/lib.rt:17:25
 sub-mid : tie.Need-sub-mid Inv-loop μ-loop
 sub-mid c = search needs
 
--- src/lib.rt:17:19
 add-mid : tie.Need-add-mid Inv-loop μ-loop
 add-mid c = search needs
 
--- src/lib.rt:18:14
 mul-if1 : tie.Need-mul-if1 Inv-loop μ-loop
 mul-if1 c = omega (arith, bound c)
 
--- src/lib.rt:18:12
 mul-if1-2 : tie.Need-mul-if1-2 Inv-loop μ-loop
 mul-if1-2 c = omega (arith, bound c)
 
--- src/lib.rt:18:12
 shared-slice-read-if1 : tie.Need-shared-slice-read-if1 Inv-loop μ-loop
 shared-slice-read-if1 c = omega (arith, bound (c .before))
 
--- src/lib.rt:19:18
 add-lo : tie.Need-add-lo Inv-loop μ-loop
 add-lo c = search needs
 
--- src/lib.rt:16:5
 loop-less : tie.Need-loop-less Inv-loop μ-loop
 loop-less c = search needs
 
--- src/lib.rt:16:5
 loop-again : tie.Need-loop-again Inv-loop μ-loop
 loop-again c =
     let l = c .before .before .before .loop in
@@ -69,11 +52,9 @@ loop-again c =
     let a = word-at (s .args .w) (s .args .n) (s .args .t .now) mid k in
     omega (arith, place-up (s .args .key) 0 ks mid (s .pre .2) (omega arith) (rw (← a) at (c .if1 .taken)))
 
--- src/lib.rt:16:5
 loop-less-2 : tie.Need-loop-less-2 Inv-loop μ-loop
 loop-less-2 c = search needs
 
--- src/lib.rt:16:5
 loop-again-2 : tie.Need-loop-again-2 Inv-loop μ-loop
 loop-again-2 c =
     let l = c .before .before .before .loop in
@@ -85,7 +66,6 @@ loop-again-2 c =
     let a = word-at (s .args .w) (s .args .n) (s .args .t .now) mid k in
     omega (arith, place-down (s .args .key) ks mid (omega arith) (rw (← a) at (c .if1 .left)))
 
--- src/lib.rt:10:1
 returns : tie.Need-returns Inv-loop μ-loop
 returns c = search needs
 

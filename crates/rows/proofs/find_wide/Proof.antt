@@ -3,21 +3,12 @@ use Rattle.rows.specs.Keys.{keys, firstFour, place}
 use Rattle.rows.specs.Wide.{keyOf}
 use Rattle.rows.specs.TableLaws.{row-fits}
 use Rattle.rows.specs.KeyLaws.{place-le, place-up, place-down, length-keys, key-at}
-use mathlib.Core.Path.{_≡_, refl, sym, ap, _∙_}
-use mathlib.Core.List.{List, [], _∷_, _++_}
-use mathlib.Core.Bool.{Bool, true, false}
-use Prim.Native.Nat.{ℕ, zero, suc, _+_, _-_, _*_, _/_, _≤_, _<_}
+use mathlib.Core.Path.{sym, _∙_}
+use Prim.Native.Nat.{_+_, _-_, _*_, _/_, _≤_}
 use native.Mathlib.Omega.{arith}
-use native.Mathlib.Numerals.{add-one}
 use borrow.Author.Needs.{needs}
-use borrow.Author.Tests.{le-ltb, lt-ltb, le-leb, lt-leb, eq-eqb, ne-eqb}
-use lib.ListN.{length, take, drop, getD, set, length-set, length-drop}
 use Rattle.rows.proofs.find_wide.Statement.{statement}
 use Rattle.rows.proofs.find_wide.Tie as tie
-use Rattle.rows.proofs.find_wide.Reads as reads
-use Rattle.rows.proofs.find_wide.Lts as lts
-use Rattle.rows.proofs.below.Reads as below-reads
-use Rattle.rows.proofs.wide_at.Reads as wide-at-reads
 
 abbrev Inv-loop : tie.InvT-loop
 Inv-loop t w n key lo₀ hi₀ lo hi = (lo ≤ place (keyOf key) (keys firstFour w n t)) × (place (keyOf key) (keys firstFour w n t) ≤ hi) × (hi ≤ n)
@@ -29,41 +20,32 @@ abbrev μ-loop : tie.MeasureT-loop
 bound : (c : tie.In-loop Inv-loop μ-loop) → (c .before .loop .lo + (c .before .loop .hi - c .before .loop .lo) / 2) * c .before .before .before .args .w + c .before .before .before .args .w ≤ c .before .before .before .args .n * c .before .before .before .args .w
 bound c = row-fits (c .before .before .before .args .w) (c .before .before .before .args .n) (c .before .loop .lo + (c .before .loop .hi - c .before .loop .lo) / 2) (omega arith)
 
--- src/lib.rt:65:5
 loop-holds : tie.Need-loop-holds Inv-loop μ-loop
 loop-holds c =
     let a = c .before .args in
     omega (arith, place-le (keyOf (a .key)) (keys firstFour (a .w) (a .n) (a .t .now)), length-keys firstFour (a .w) (a .n) (a .t .now))
 
--- src/lib.rt:66:25
 sub-mid : tie.Need-sub-mid Inv-loop μ-loop
 sub-mid c = search needs
 
--- src/lib.rt:66:19
 add-mid : tie.Need-add-mid Inv-loop μ-loop
 add-mid c = search needs
 
--- src/lib.rt:67:29
 mul-wide-at : tie.Need-mul-wide-at Inv-loop μ-loop
 mul-wide-at c = omega (arith, bound c)
 
--- src/lib.rt:67:18
 wide-at-requires : tie.Need-wide-at-requires Inv-loop μ-loop
 wide-at-requires c κs = omega (arith, bound c)
 
--- src/lib.rt:67:12
 below-requires : tie.Need-below-requires Inv-loop μ-loop
 below-requires c κs = search needs
 
--- src/lib.rt:68:18
 add-lo : tie.Need-add-lo Inv-loop μ-loop
 add-lo c = search needs
 
--- src/lib.rt:65:5
 loop-less : tie.Need-loop-less Inv-loop μ-loop
 loop-less c = search needs
 
--- src/lib.rt:65:5
 loop-again : tie.Need-loop-again Inv-loop μ-loop
 loop-again c =
     let l = c .before .before .before .before .loop in
@@ -75,11 +57,9 @@ loop-again c =
     let b = ltb-true (keyOf (c .before .before .wide-at .result)) (keyOf (s .args .key)) (sym (c .before .below .ensures) ∙ c .if1 .taken) in
     omega (arith, c .before .before .wide-at .ensures, place-up (keyOf (s .args .key)) 0 ks mid (s .pre .2) (omega arith) (omega (arith, c .before .before .wide-at .ensures)))
 
--- src/lib.rt:65:5
 loop-less-2 : tie.Need-loop-less-2 Inv-loop μ-loop
 loop-less-2 c = search needs
 
--- src/lib.rt:65:5
 loop-again-2 : tie.Need-loop-again-2 Inv-loop μ-loop
 loop-again-2 c =
     let l = c .before .before .before .before .loop in
@@ -91,7 +71,6 @@ loop-again-2 c =
     let b = ltb-false (keyOf (c .before .before .wide-at .result)) (keyOf (s .args .key)) (sym (c .before .below .ensures) ∙ c .if1 .left) in
     omega (arith, place-down (keyOf (s .args .key)) ks mid (omega arith) (omega (arith, c .before .before .wide-at .ensures)))
 
--- src/lib.rt:59:1
 returns : tie.Need-returns Inv-loop μ-loop
 returns c = search needs
 

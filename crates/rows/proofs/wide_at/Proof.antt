@@ -1,64 +1,41 @@
 use Rattle.rows.specs.WideLaws.{four-at}
-use mathlib.Core.Path.{_≡_, refl, sym, ap, _∙_}
-use mathlib.Core.List.{List, [], _∷_, _++_}
-use mathlib.Core.Bool.{Bool, true, false}
-use Prim.Native.Nat.{ℕ, zero, suc, _+_, _-_, _*_, _≤_, _<_}
-use native.Mathlib.Omega.{arith}
-use native.Mathlib.Numerals.{add-one}
-use borrow.Author.Needs.{needs}
-use borrow.Author.Tests.{le-ltb, lt-ltb, le-leb, lt-leb, eq-eqb, ne-eqb}
-use lib.ListN.{length, take, drop, getD, set, length-set, length-drop}
 use borrow.Author.Needs.{needs}
 use Rattle.rows.proofs.wide_at.Statement.{statement}
 use Rattle.rows.proofs.wide_at.Tie as tie
-use Rattle.rows.proofs.wide_at.Reads as reads
-use Rattle.rows.proofs.wide_at.Lts as lts
 
--- src/lib.rt:21:10
 mul-t3 : tie.Need-mul-t3
 mul-t3 c = search needs
 
--- src/lib.rt:21:10
 shared-slice-read-t5 : tie.Need-shared-slice-read-t5
 shared-slice-read-t5 c = search needs
 
--- src/lib.rt:21:19
 add-t6 : tie.Need-add-t6
 add-t6 c = search needs
 
--- src/lib.rt:21:17
 mul-t7 : tie.Need-mul-t7
 mul-t7 c = search needs
 
--- src/lib.rt:21:17
 shared-slice-read-t9 : tie.Need-shared-slice-read-t9
 shared-slice-read-t9 c = search needs
 
--- src/lib.rt:21:30
 add-t10 : tie.Need-add-t10
 add-t10 c = search needs
 
--- src/lib.rt:21:28
 mul-t11 : tie.Need-mul-t11
 mul-t11 c = search needs
 
--- src/lib.rt:21:28
 shared-slice-read-t13 : tie.Need-shared-slice-read-t13
 shared-slice-read-t13 c = search needs
 
--- src/lib.rt:21:41
 add-t14 : tie.Need-add-t14
 add-t14 c = search needs
 
--- src/lib.rt:21:39
 mul-t15 : tie.Need-mul-t15
 mul-t15 c = search needs
 
--- src/lib.rt:21:39
 shared-slice-read-t17 : tie.Need-shared-slice-read-t17
 shared-slice-read-t17 c = search needs
 
--- src/lib.rt:17:1
 returns : tie.Need-returns
 returns c = let s = c .before .before .before .before in four-at (s .args .t .now) (s .args .at) (s .pre)
 
