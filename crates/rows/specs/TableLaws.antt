@@ -104,6 +104,11 @@ module _ {E : Type 0} (c : Coding E) where
       let q : c .width + k * c .width ≡ suc k * c .width = omega (arith, suc-mul k (c .width)) in
       row-at n (drop (c .width) t) k d (omega arith) ∙ rw (drop-drop (k * c .width) (c .width) t, q)
 
+  -- the rows from row k on
+  pub drop-row : (n : ℕ) (t : List ℕ) (k : ℕ) → k < n → drop k (rowsOf c n t) ≡ c .dec (drop (k * c .width) t) ∷ drop (suc k) (rowsOf c n t)
+  drop-row n t k h =
+      drop-cons (rowsOf c n t) k (c .dec t) (rw (length-rowsOf n t) h) ∙ ap (λ (e : E). e ∷ drop (suc k) (rowsOf c n t)) (row-at n t k (c .dec t) h)
+
   pub words-rowsOf : (n : ℕ) (t : List ℕ) → n * c .width ≤ length t → flat (c .enc) (rowsOf c n t) ≡ take (n * c .width) t
   unfolding flat rowsOf
   words-rowsOf zero t h = rw (zero-mul (c .width))
