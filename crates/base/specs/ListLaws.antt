@@ -1,15 +1,15 @@
 -- Laws of the tests and choices over lists: what a test over a list says of its items, of lists end to end, and of a list in another order.
 -- Assumes nothing.
 use mathlib.Core.Path.{_≡_, refl, sym, ap, ap₂, _∙_}
-use mathlib.Core.Logic.{_↔_}
+use mathlib.Core.Logic.{_↔_, _⊎_, inl, inr}
 use mathlib.Core.Bool.{Bool, true, false, _||_, true≢false, false≢true}
 use mathlib.Core.List.{List, [], _∷_, _++_, map, Permᴰ·map, Permᴰ·refl}
 use mathlib.Core.List.{List·Permᴰ as Reordered, List·Permᴰ·nil as order-nil, List·Permᴰ·cons as order-cons, List·Permᴰ·swap as order-swap, List·Permᴰ·trans as order-trans}
-use Prim.Native.Nat.{ℕ, suc, _≤_}
+use Prim.Native.Nat.{ℕ, suc, _+_, _≤_, _<_}
 use native.Mathlib.Omega.{arith}
 use lib.ListN.{length}
 use lib.Dec.{eqb, leb, ltb}
-use borrow.Author.Tests.{eqb-true, eqb-false, eq-eqb, ne-eqb, ltb-true}
+use borrow.Author.Tests.{eqb-true, eqb-false, eq-eqb, ne-eqb, leb-true, le-leb, ltb-true, lt-ltb}
 use Rattle.base.specs.Logic.{pick, all, any, keep, fold, elem, repeated, ascendingFrom}
 use Rattle.base.specs.Laws.{and-left, and-right, and-both, ascending-head, ascending-tail, ascending-lower}
 
@@ -22,6 +22,20 @@ or-false false b e = (refl, e)
 pub fails-not : {P : Type 0} (b : Bool) → (b ≡ true) ↔ P → (b ≡ false) ↔ (¬ P)
 fails-not true h = (λ e. absurd (true≢false e), λ n. absurd (n (h .0 refl)))
 fails-not false h = (λ e p. false≢true (h .1 p), λ n. refl)
+
+pub leb-le : (a b : ℕ) → (leb a b ≡ true) ↔ (a ≤ b)
+leb-le a b = (leb-true a b, le-leb a b)
+
+pub ltb-lt : (a b : ℕ) → (ltb a b ≡ true) ↔ (a < b)
+ltb-lt a b = (ltb-true a b, lt-ltb a b)
+
+pub eqb-eq : (a b : ℕ) → (eqb a b ≡ true) ↔ (a ≡ b)
+eqb-eq a b = (eqb-true a b, eq-eqb a b)
+
+-- one of two tests passes exactly where what one of them tests holds
+pub or-either : {P Q : Type 0} (a b : Bool) → (a ≡ true) ↔ P → (b ≡ true) ↔ Q → ((a || b) ≡ true) ↔ (P ⊎ Q)
+or-either true b h k = (λ e. inl (h .0 refl), λ s. refl)
+or-either false b h k = (λ e. inr (k .0 e), λ s. elim s [ inl p ↦ absurd (false≢true (h .1 p)) | inr q ↦ k .1 q ])
 
 pub eqb-sym : (a b : ℕ) → eqb a b ≡ eqb b a
 eqb-sym a b = go (eqb b a) refl
@@ -63,16 +77,22 @@ module _ {A : Type 0} where
   any-some p h [] = (λ e. absurd (false≢true e), λ s. elim s [ ])
   any-some p h (x ∷ xs) = some-cons (p x) (any p xs) (h x) (any-some p h xs)
 
-  some-elem : (f : A → ℕ) (x : ℕ) (xs : List A) → (elem x (map f xs) ≡ true) ↔ Some (λ y. x ≡ f y) xs
+  -- a number is among those that the items have
+  pub elem-some : (f : A → ℕ) (x : ℕ) (xs : List A) → (elem x (map f xs) ≡ true) ↔ Some (λ y. x ≡ f y) xs
   unfolding any
-  some-elem f x [] = (λ e. absurd (false≢true e), λ s. elim s [ ])
-  some-elem f x (y ∷ ys) = some-cons (eqb x (f y)) (elem x (map f ys)) (eqb-true x (f y), eq-eqb x (f y)) (some-elem f x ys)
+  elem-some f x [] = (λ e. absurd (false≢true e), λ s. elim s [ ])
+  elem-some f x (y ∷ ys) = some-cons (eqb x (f y)) (elem x (map f ys)) (eqb-eq x (f y)) (elem-some f x ys)
 
   -- a number stands twice exactly where two items have it
   pub repeated-two : (f : A → ℕ) (xs : List A) → (repeated (map f xs) ≡ true) ↔ Two (λ x y. f x ≡ f y) xs
   unfolding repeated
   repeated-two f [] = (λ e. absurd (false≢true e), λ s. elim s [ ])
-  repeated-two f (x ∷ xs) = two-cons (elem (f x) (map f xs)) (repeated (map f xs)) (some-elem f (f x) xs) (repeated-two f xs)
+  repeated-two f (x ∷ xs) = two-cons (elem (f x) (map f xs)) (repeated (map f xs)) (elem-some f (f x) xs) (repeated-two f xs)
+
+  -- an item with one property has every property that follows from it
+  pub some-weaker : {P Q : A → Type 0} {xs : List A} → ((x : A) → P x → Q x) → Some P xs → Some Q xs
+  some-weaker h (here {x = x} p) = here (h x p)
+  some-weaker h (there s) = there (some-weaker h s)
 
   -- ---- tests and choices of lists end to end
   pub all-append : (p : A → Bool) (xs ys : List A) → all p xs ≡ true → all p ys ≡ true → all p (xs ++ ys) ≡ true
@@ -90,13 +110,13 @@ module _ {A : Type 0} where
       go false k = refl
 
   -- ---- the items that pass a test
-  pub keep-hit : (p : A → Bool) (x : A) (xs : List A) → p x ≡ true → keep p (x ∷ xs) ≡ x ∷ keep p xs
+  pub length-keep : (p : A → Bool) (x : A) (xs : List A) → length (keep p (x ∷ xs)) ≡ pick (p x) 1 0 + length (keep p xs)
   unfolding keep
-  keep-hit p x xs e = rw e
-
-  pub keep-miss : (p : A → Bool) (x : A) (xs : List A) → p x ≡ false → keep p (x ∷ xs) ≡ keep p xs
-  unfolding keep
-  keep-miss p x xs e = rw e
+  length-keep p x xs = go (p x)
+    where
+      go : (b : Bool) → length (pick b (x ∷ keep p xs) (keep p xs)) ≡ pick b 1 0 + length (keep p xs)
+      go true = omega arith
+      go false = omega arith
 
   pub all-kept : (p : A → Bool) (xs : List A) → all p (keep p xs) ≡ true
   unfolding keep all
@@ -152,12 +172,12 @@ module _ {A : Type 0} where
   keep-narrow p q h xs = keep-swap p q xs ∙ keep-whole q p h (keep p xs) (all-kept p xs)
 
   -- ---- a list gone through from the left
-  -- what every step keeps holds in the end
-  pub fold-keeps : {B : Type 0} (f : A → B → B) (P : B → Type 0) (ok : A → Bool) → ((x : A) (b : B) → ok x ≡ true → P b → P (f x b))
-      → (xs : List A) (b : B) → all ok xs ≡ true → P b → P (fold f xs b)
-  unfolding fold all
-  fold-keeps f P ok h [] b a p = p
-  fold-keeps f P ok h (x ∷ xs) b a p = fold-keeps f P ok h xs (f x b) (and-right (ok x) (all ok xs) a) (h x b (and-left (ok x) (all ok xs) a) p)
+  -- what is read off in the end is what the steps do to what is read off
+  pub fold-reads : {B C : Type 0} (f : A → B → B) (g : A → C → C) (read : B → C) → ((x : A) (b : B) → read (f x b) ≡ g x (read b))
+      → (xs : List A) (b : B) → read (fold f xs b) ≡ fold g xs (read b)
+  unfolding fold
+  fold-reads f g read h [] b = refl
+  fold-reads {C = C} f g read h (x ∷ xs) b = fold-reads f g read h xs (f x b) ∙ ap (λ (c : C). fold g xs c) (h x b)
 
   -- ---- the same items in another order
   -- where a list's value is made item by item, and two items may change places, their order doesn't matter
@@ -233,6 +253,21 @@ module _ {A : Type 0} (key : A → ℕ) where
       ap (λ (c : B). fold f l c) (swap x y b differ ∙ cc)
   fold-order f swap (order-trans r t) n b =
       fold-order f swap r n b ∙ fold-order f swap t (sym (repeated-order (Permᴰ·map key r)) ∙ n) b
+
+  -- a value that each item with the key i sets: the one item with that key leaves its own, and with none it is as before
+  module _ {C : Type 0} (value : A → C) (i : ℕ) where
+    pub fold-unset : (xs : List A) (c : C) → elem i (map key xs) ≡ false → fold (λ x d. pick (eqb i (key x)) (value x) d) xs c ≡ c
+    unfolding fold any
+    fold-unset [] c e = refl
+    fold-unset (x ∷ xs) c e = let f = or-false (eqb i (key x)) (elem i (map key xs)) e in rw (f .0) (fold-unset xs c (f .1))
+
+    pub fold-set : {xs : List A} (v c : C) → Some (λ x. (key x ≡ i) × (value x ≡ v)) xs → repeated (map key xs) ≡ false
+        → fold (λ x d. pick (eqb i (key x)) (value x) d) xs c ≡ v
+    unfolding fold repeated
+    fold-set v c (here {x = x} {xs = xs} p) e =
+        let alone : elem i (map key xs) ≡ false = ap (λ (k : ℕ). elem k (map key xs)) (sym (p .0)) ∙ or-false (elem (key x) (map key xs)) (repeated (map key xs)) e .0 in
+        rw (eq-eqb i (key x) (sym (p .0))) (fold-unset xs (value x) alone ∙ p .1)
+    fold-set v c (there {x = x} {xs = xs} s) e = fold-set v (pick (eqb i (key x)) (value x) c) s (or-false (elem (key x) (map key xs)) (repeated (map key xs)) e .1)
 
   -- ---- ascending keys
   pub ascending-append : (lo hi : ℕ) (xs ys : List A) → lo ≤ hi → ascendingFrom lo (map key xs) ≡ true → all (λ x. ltb (key x) hi) xs ≡ true

@@ -84,13 +84,14 @@ module _ (i n : ℕ) where
     behind : List Entry
     behind = keep (λ e. leb (suc i) (e .idx)) es
 
-    stored-here : storedAt i (setCount i n es) ≡ storedOf n
+    -- the stored count: what n stores at i, as before elsewhere
+    pub stored-here : storedAt i (setCount i n es) ≡ storedOf n
     unfolding setCount putRows behind
     stored-here =
         passed (λ k. ltb k i) i (rowOf i n ++ behind) es (le-ltb i i (omega arith))
         ∙ row-here behind (passed-alone (λ k. leb (suc i) k) i es (lt-leb (suc i) i (omega arith)))
 
-    stored-other : (j : ℕ) → (j ≡ i → ⊥) → storedAt j (setCount i n es) ≡ storedAt j es
+    pub stored-other : (j : ℕ) → (j ≡ i → ⊥) → storedAt j (setCount i n es) ≡ storedAt j es
     unfolding setCount putRows behind
     stored-other j h =
         elim (decLe i j) [
@@ -103,7 +104,6 @@ module _ (i n : ℕ) where
               (row-other j behind h ∙ passed-alone (λ k. leb (suc i) k) j es (lt-leb (suc i) j (omega arith)))
         ]
 
-    -- the stored count: what n stores at i, as before elsewhere
     pub storedAt-setCount : (j : ℕ) → storedAt j (setCount i n es) ≡ pick (eqb j i) (storedOf n) (storedAt j es)
     storedAt-setCount j = go (eqb j i) refl
       where
