@@ -9,8 +9,9 @@ use native.Mathlib.Omega.{arith}
 use lib.Dec.{eqb}
 use borrow.Author.Tests.{eq-eqb}
 use Rattle.base.specs.Logic.{any, elem}
-use Rattle.base.specs.Answers.{Outcome, refused, taken, _>>_, refuseIf, numberOf, either}
+use Rattle.base.specs.Answers.{Outcome, refused, taken, _>>_, refuseIf, numberOf, either, answerOf}
 use Rattle.base.specs.declared.Refusal.{Refusal}
+use Rattle.base.specs.declared.Answer.the-variants.{Refused}
 
 module _ {B : Type 0} where
   -- refusals with two numbers are two, and no refusal is a value
@@ -81,3 +82,9 @@ module _ {X A B C : Type 0} where
 
       pub flat-six : {F : Type 0} → X ↔ (A × (B × (C × (D × (E × F))))) → X ↔ (A × B × C × D × E × F)
       flat-six h = (λ x. let p = h .0 x in (p .0, p .1 .0, p .1 .1 .0, p .1 .1 .1 .0, p .1 .1 .1 .1 .0, p .1 .1 .1 .1 .1), λ p. h .1 (p .0, (p .1, (p .2, (p .3, (p .4, p .5))))))
+
+-- ---- the answer to an outcome
+module _ {B : Type 0} where
+  pub answer-refused : (o : Outcome B) (r : Refusal) → (answerOf o ≡ Refused r) ↔ (o ≡ refused r)
+  answer-refused (refused q) r = (λ e. cc, λ e. ap answerOf e)
+  answer-refused (taken a) r = (λ e. let z : _≡_ {A = ℕ} 0 1 = cc in absurd (omega arith), λ e. absurd (taken-refused e))
