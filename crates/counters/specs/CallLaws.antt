@@ -70,13 +70,14 @@ module _ (base : ℕ) (next : NextIdx) (t : List ℕ) where
 
 -- ---- allocation
 module _ (c : Counters) where
-  pub alloc-answer : allocCall c .answer ≡ answerOf (allocate (c .«next_idx» .0))
+  -- the numbers are the operation's
+  pub alloc-answer : (r : Refusal) → (allocCall c .answer ≡ Refused r) ↔ (allocate (c .«next_idx» .0) ≡ refused r)
   unfolding allocCall allocated
-  alloc-answer = go (allocate (c .«next_idx» .0))
+  alloc-answer r = go (allocate (c .«next_idx» .0))
     where
-      go : (o : Outcome ℕ) → allocated c o .answer ≡ answerOf o
-      go (refused q) = refl
-      go (taken n) = refl
+      go : (o : Outcome ℕ) → (allocated c o .answer ≡ Refused r) ↔ (o ≡ refused r)
+      go (refused q) = answer-refused (refused q) r
+      go (taken n) = answer-refused (taken n) r
 
   -- a refusal hands out 0 and leaves the record as it was
   pub alloc-refused : (r : Refusal) → allocCall c .answer ≡ Refused r → (allocCall c .idx .0 ≡ 0) × (allocCall c .counters ≡ c)
@@ -125,6 +126,10 @@ module _ (c : Counters) (t : List ℕ) (i : Idx) where
   pub get-held : holds c t ≡ true → getCall c t i ≡ record { answer = answerOf (get (stateOf c t) (i .0)); count = record { 0 = valueOr 0 (get (stateOf c t) (i .0)) } }
   unfolding getCall
   get-held h = rw (onState-held c t (λ s. get s (i .0)) h)
+
+  -- so the other numbers are the operation's
+  pub get-answer : holds c t ≡ true → (r : Refusal) → (getCall c t i .answer ≡ Refused r) ↔ (get (stateOf c t) (i .0) ≡ refused r)
+  get-answer h r = rw (get-held h) (answer-refused (get (stateOf c t) (i .0)) r)
 
   -- 20, broken: exactly where they hold none
   pub get-broken : (getCall c t i .answer ≡ Refused Broken) ↔ (holds c t ≡ false)

@@ -226,6 +226,10 @@ module _ (next : ℕ) where
     pub stored-unallocated : (j : ℕ) → next ≤ j → storedAt j es ≡ 0
     stored-unallocated j h = sound-none es sounds j h
 
+    pub count-unallocated : (j : ℕ) → next ≤ j → countAt j es ≡ 1
+    unfolding countAt
+    count-unallocated j h = rw (stored-unallocated j h)
+
     -- a stored count is at least 2
     pub stored-two : (j : ℕ) → 0 < storedAt j es → 2 ≤ storedAt j es
     stored-two j h = two-or-none (storedAt j es) (sound-stored es sounds j) h

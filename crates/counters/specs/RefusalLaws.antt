@@ -43,9 +43,12 @@ module _ (s : State) (i : ℕ) where
   unfolding get
   get-unallocated = ends-here (leb-le (s .next) i) taken-refused
 
-  pub get-taken : (n : ℕ) → (get s i ≡ taken n) ↔ ((¬ (s .next ≤ i)) × (n ≡ countAt i (s .counts)))
+  pub get-taken : (n : ℕ) → (get s i ≡ taken n) ↔ ((i < s .next) × (n ≡ countAt i (s .counts)))
   unfolding get
-  get-taken n = ends-later (leb-le (s .next) i) refused-taken (taken-same (countAt i (s .counts)) n)
+  get-taken n = (λ e. (omega (arith, later .0 e .0), later .0 e .1), λ p. later .1 (omega (arith, p .0), p .1))
+    where
+      later : (get s i ≡ taken n) ↔ ((¬ (s .next ≤ i)) × (n ≡ countAt i (s .counts)))
+      later = ends-later (leb-le (s .next) i) refused-taken (taken-same (countAt i (s .counts)) n)
 
   -- it is refused with no other number
   pub get-numbers : Refuses (2 ∷ []) (get s i)
