@@ -102,7 +102,7 @@ paste-two {A} t at x y h =
     let q : at + 1 < length (set t at x) = rw (length-set t at x) (omega arith) in
     sym (paste-one (set t at x) (at + 1) y q)
     ∙ ap (λ (l : List A). paste l (at + 1) (y ∷ []) 1) (sym (paste-one t at x p))
-    ∙ paste-append t at (x ∷ []) (y ∷ []) 1 1 (omega arith) refl refl
+    ∙ paste-append t at (x ∷ []) (y ∷ []) 1 1 refl refl (omega arith)
 
 module _ (t : List ℕ) (at x : ℕ) (small : x < 65536) (fits : at + 2 ≤ length t) where
   upper : x / 256 % 256 ≡ x / 256
@@ -121,19 +121,25 @@ module _ (t : List ℕ) (at x : ℕ) (small : x < 65536) (fits : at + 2 ≤ leng
 -- ---- a number written in two halves: o is the list after the first
 
 module _ (t o : List ℕ) (at j k x : ℕ) (fits : at ≤ length t) where
+  low : length (digits 256 j x) ≡ j
+  low = length-digits 256 j x
+
+  high : length (digits 256 k (x / 256 ^ j)) ≡ k
+  high = length-digits 256 k (x / 256 ^ j)
+
   -- the lowest first
   pub paste-le : o ≡ paste t at (digits 256 j (x % 256 ^ j)) j → paste o (at + j) (digits 256 k (x / 256 ^ j)) k ≡ paste t at (digits 256 (j + k) x) (j + k)
   paste-le e =
-      rw (e, digits-low 256 j x (omega arith), digits-append 256 j k x)
-      (paste-append t at (digits 256 j x) (digits 256 k (x / 256 ^ j)) j k fits (length-digits 256 j x) (length-digits 256 k (x / 256 ^ j)))
+      rw (e, digits-low 256 j x (omega arith), digits-append 256 j k x) (paste-append t at (digits 256 j x) (digits 256 k (x / 256 ^ j)) j k low high fits)
 
   -- the highest first
   pub paste-be : o ≡ paste t at (be k (x / 256 ^ j)) k → paste o (at + k) (be j (x % 256 ^ j)) j ≡ paste t at (be (j + k) x) (k + j)
   paste-be e =
       rw (e, digits-low 256 j x (omega arith), digits-append 256 j k x, reverse-append (digits 256 j x) (digits 256 k (x / 256 ^ j)))
-      (paste-append t at (be k (x / 256 ^ j)) (be j x) k j fits
-      (length-reverse (digits 256 k (x / 256 ^ j)) ∙ length-digits 256 k (x / 256 ^ j))
-      (length-reverse (digits 256 j x) ∙ length-digits 256 j x))
+      (paste-append t at (be k (x / 256 ^ j)) (be j x) k j
+      (length-reverse (digits 256 k (x / 256 ^ j)) ∙ high)
+      (length-reverse (digits 256 j x) ∙ low)
+      fits)
 
 -- ---- a number read from a list that goes on
 
