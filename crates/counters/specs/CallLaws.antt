@@ -29,7 +29,7 @@ use Rattle.counters.specs.Layout.{countRow, transitionRow, roomOf, withN
 use Rattle.counters.specs.LayoutLaws.{held, length-tableOf, stateOf-laid, holds-laid}
 use Rattle.counters.specs.Calls.{onState, laid, laidOut, newCall, allocated, allocCall, getCall, batchCall, decided, shrinkCall}
 use Rattle.counters.specs.CountLaws.{ordered-more}
-use Rattle.counters.specs.OutcomeLaws.{refused-taken, taken-refused, answer-refused}
+use Rattle.base.specs.OutcomeLaws.{refused-taken, taken-refused, answer-refused}
 use Rattle.counters.specs.RefusalLaws.{allocate-taken, get-numbers, batch-numbers, taken-ordered, taken-fits}
 
 -- ---- an operation on the state that a record and a table hold

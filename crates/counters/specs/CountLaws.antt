@@ -15,7 +15,7 @@ use Rattle.base.specs.ListLaws.{all-weaker}
 use Rattle.rows.specs.Keys.{putRows}
 use Rattle.counters.specs.Counts.{Entry, storedAt, countAt, rowOf, setCount}
 use Rattle.counters.specs.Layout.{ordered}
-use Rattle.counters.specs.RowLaws.{within, putRows-all, putRows-again, putRows-ascending, putRows-swap}
+use Rattle.rows.specs.OrderLaws.{within, putRows-all, putRows-again, putRows-ascending, putRows-swap}
 
 -- what a count stores: 0 and 1 store nothing
 abbrev pub storedOf : ℕ → ℕ

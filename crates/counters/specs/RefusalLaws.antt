@@ -18,7 +18,7 @@ use Rattle.counters.specs.Counts.{Entry, State, storedAt, countAt, alloc
 use Rattle.counters.specs.Batch.{kept, births, deaths, falseOld, offTotal, countsAfter, stateAfter, applyKept, applyBatch}
 use Rattle.counters.specs.Layout.{ordered}
 use Rattle.counters.specs.BatchLaws.{named, unallocated, ordered-countsAfter, count-named, count-unnamed}
-use Rattle.counters.specs.OutcomeLaws.{flat-three, flat-four, flat-five, flat-six, other-number, refused-taken, taken-refused, taken-same, ends-here, ends-later, never-ends, Refuses, refuses-none, refuses-step}
+use Rattle.base.specs.OutcomeLaws.{flat-three, flat-four, flat-five, flat-six, other-number, refused-taken, taken-refused, taken-same, ends-here, ends-later, never-ends, Refuses, refuses-none, refuses-step}
 
 -- ---- allocation
 module _ (next : ℕ) where
