@@ -1,4 +1,6 @@
--- `Table`: rows in a table of words. `Keys`: the order of the rows. `TableLaws`, `KeyLaws`: their laws, for any width and coding.
+-- `Table`: rows in a table of words. `Keys`: the order of the rows, and a row put in its place. `Wide`: keys of four words.
+-- The laws hold for any width, coding and key. `TableLaws`: rows as parts of words. `KeyLaws`: the place of a key. `MoveLaws`: rows that
+-- move. `PutLaws`: a table with a row more or less. `OrderLaws`: rows put twice or at two places. `WideLaws`: words order as keys do.
 pub mod Table
 pub mod Keys
 pub mod Wide
@@ -6,5 +8,6 @@ pub mod TableLaws
 pub mod KeyLaws
 pub mod MoveLaws
 pub mod PutLaws
+pub mod OrderLaws
 pub mod WideLaws
 pub mod Open

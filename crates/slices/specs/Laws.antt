@@ -6,13 +6,13 @@ use mathlib.Core.Path.{_≡_, refl, sym, ap, ap₂, _∙_}
 use mathlib.Core.Bool.{Bool, true, false, _&&_}
 use mathlib.Core.List.{List, [], _∷_, _++_, append-assoc}
 use Prim.Native.Nat.{ℕ, zero, suc, _+_, _-_, _≤_, _<_}
-use native.Mathlib.Nat.{zero-add, add-assoc}
+use native.Mathlib.Nat.{zero-add, suc-add, add-assoc}
 use native.Mathlib.Numerals.{add-one}
 use native.Mathlib.Omega.{arith}
 use borrow.Author.Tests.{eqb-true, eq-eqb}
 use lib.Dec.{eqb}
-use lib.ListN.{length, getD, set, take, drop, length-append, take-append-drop}
-use lib.Seq.{paste, take-paste, drop-paste, take-take, take-all, drop-drop, getD-take, getD-drop, take-add, take-at, drop-at, length-take-le, append-snoc, set-split}
+use lib.ListN.{length, getD, set, take, drop, length-append, length-drop, take-append-drop}
+use lib.Seq.{paste, take-paste, drop-paste, take-nil, take-take, take-all, drop-append-le, drop-drop, getD-take, getD-drop, take-add, take-at, drop-at, length-take-le, append-snoc, set-split}
 use Rattle.base.specs.Logic.{overlay, eqbList}
 use Rattle.base.specs.Laws.{and-left, and-right}
 
@@ -25,6 +25,12 @@ module _ {A : Type 0} where
   part-front k (suc i) zero l h = absurd (omega arith)
   part-front k (suc i) (suc m) [] h = refl
   part-front k (suc i) (suc m) (x ∷ xs) h = part-front k i m xs (omega arith)
+
+  -- the rest of a front is the front of the rest
+  pub drop-take : (i k : ℕ) (l : List A) → drop i (take (i + k) l) ≡ take k (drop i l)
+  drop-take zero k l = rw (zero-add k)
+  drop-take (suc i) k [] = rw (suc-add i k) (sym (take-nil k))
+  drop-take (suc i) k (x ∷ xs) = rw (suc-add i k) (drop-take i k xs)
 
   -- lists with the same first m have the same first k, for any k that is no more
   pub take-same : (a b : List A) (m k : ℕ) → take m a ≡ take m b → k ≤ m → take k a ≡ take k b
@@ -89,20 +95,55 @@ module _ {A : Type 0} where
 
   -- ---- several pastes, and what else is a paste
 
-  -- two pastes side by side are one
-  pub paste-append : (t : List A) (at : ℕ) (x y : List A) (m n : ℕ) → at ≤ length t → length x ≡ m → length y ≡ n
-      → paste (paste t at x m) (at + m) y n ≡ paste t at (x ++ y) (m + n)
-  paste-append t at x y m n h p q =
-      let k : m ≤ length x = omega arith in
-      rw (
-        take-paste t at x m h k,
-        drop-paste-after t at x m h k (at + m + n) (omega arith),
-        take-all m x (omega arith),
-        take-all n y (omega arith),
-        take-all (m + n) (x ++ y) (simp length-append (omega arith)),
-        add-assoc at m n,
-        append-assoc (take at t) x y,
-      )
+  -- only the first n count
+  pub paste-take : (t : List A) (at : ℕ) (s : List A) (n : ℕ) → paste t at (take n s) n ≡ paste t at s n
+  paste-take t at s n = rw (take-take n n s (omega arith))
+
+  -- two pastes side by side are one, whichever comes first
+  module _ (t : List A) (at : ℕ) (x y : List A) (m n : ℕ) (p : length x ≡ m) (q : length y ≡ n) where
+    whole : take m x ++ take n y ≡ take (m + n) (x ++ y)
+    whole = rw (take-all m x (omega arith), take-all n y (omega arith), take-all (m + n) (x ++ y) (simp length-append (omega arith)))
+
+    pub paste-append : at ≤ length t → paste (paste t at x m) (at + m) y n ≡ paste t at (x ++ y) (m + n)
+    paste-append h =
+        let k : m ≤ length x = omega arith in
+        rw (
+          take-paste t at x m h k,
+          drop-paste-after t at x m h k (at + m + n) (omega arith),
+          append-assoc (take at t) (take m x) (take n y),
+          whole,
+          add-assoc at m n,
+        )
+
+    pub paste-prepend : at + m ≤ length t → paste (paste t (at + m) y n) at x m ≡ paste t at (x ++ y) (m + n)
+    paste-prepend h =
+        let k : n ≤ length y = omega arith in
+        rw (
+          take-paste-before t (at + m) y n h k at (omega arith),
+          drop-paste-at t (at + m) y n h k,
+          ← append-assoc (take at t ++ take m x) (take n y) (drop (at + m + n) t),
+          append-assoc (take at t) (take m x) (take n y),
+          whole,
+          add-assoc at m n,
+        )
+
+  -- pastes to places apart, in either order
+  pub paste-comm : (t : List A) (at : ℕ) (x : List A) (m to : ℕ) (y : List A) (n : ℕ) → at + m ≤ to → to ≤ length t → m ≤ length x → n ≤ length y
+      → paste (paste t at x m) to y n ≡ paste (paste t to y n) at x m
+  paste-comm t at x m to y n h k p q =
+      let g : ℕ = to - (at + m) in
+      let e : to ≡ at + m + g = omega arith in
+      let f : at ≤ length t = omega arith in
+      let gap : List A = take g (drop (at + m) t) in
+      let first : take to (paste t at x m) ≡ take at t ++ take m x ++ gap =
+      ap (λ (i : ℕ). take i (paste t at x m)) e
+      ∙ take-add (at + m) g (paste t at x m)
+      ∙ ap₂ (λ (u v : List A). u ++ take g v) (take-paste t at x m f p) (drop-paste t at x m f p) in
+      let last : drop (at + m) (paste t to y n) ≡ gap ++ (take n y ++ drop (to + n) t) =
+      ap (λ (l : List A). drop (at + m) l) (paste-right t to y n)
+      ∙ drop-append-le (at + m) (take to t) (take n y ++ drop (to + n) t) (rw (length-take-le to t k) h)
+      ∙ ap (λ (l : List A). l ++ (take n y ++ drop (to + n) t)) (ap (λ (i : ℕ). drop (at + m) (take i t)) e ∙ drop-take (at + m) g t) in
+      rw (first, drop-paste-after t at x m f p (to + n) (omega arith), take-paste-before t to y n k q at (omega arith), last) (simp append-assoc)
 
   -- a second paste to the same place leaves nothing of the first
   pub paste-over : (t : List A) (at : ℕ) (x y : List A) (n : ℕ) → at ≤ length t → n ≤ length x
@@ -121,6 +162,18 @@ module _ {A : Type 0} where
   -- a store is a paste of one
   pub paste-one : (t : List A) (at : ℕ) (x : A) → at < length t → paste t at (x ∷ []) 1 ≡ set t at x
   paste-one t at x h = rw (add-one at, append-snoc (take at t) x (drop (suc at) t)) (sym (set-split t at x h))
+
+  -- a part that is lent from a to e, and a copy of it
+  pub part-lent : (s : List A) (a e n : ℕ) → e ≡ a + n → take (e - a) (drop a s) ≡ take n (drop a s)
+  part-lent s a e n h =
+      let q : e - a ≡ n = omega arith in
+      rw q
+
+  pub paste-part : (t : List A) (at : ℕ) (s : List A) (a e n : ℕ) → e ≡ a + n → e ≤ length s
+      → paste t at (take (e - a) (drop a s)) (length (take (e - a) (drop a s))) ≡ paste t at (drop a s) n
+  paste-part t at s a e n h k =
+      let l : length (take n (drop a s)) ≡ n = length-take-le n (drop a s) (simp length-drop (omega arith)) in
+      rw (part-lent s a e n h, l) (paste-take t at (drop a s) n)
 
   -- a part that was lent, and came back as s
   pub paste-lent : (t : List A) (at : ℕ) (s : List A) (n : ℕ) → length s ≡ n → take at t ++ (s ++ drop n (drop at t)) ≡ paste t at s n
