@@ -14,7 +14,7 @@ use Rattle.base.specs.Laws.{and-left, and-right, and-both, ascending-head, asce
 use Rattle.base.specs.ListLaws.{all-weaker}
 use Rattle.rows.specs.Keys.{putRows}
 use Rattle.counters.specs.Counts.{Entry, storedAt, countAt, rowOf, setCount}
-use Rattle.counters.specs.Layout.{ordered}
+use Rattle.counters.specs.Layout.{sound, ordered}
 use Rattle.rows.specs.OrderLaws.{within, putRows-all, putRows-again, putRows-ascending, putRows-swap}
 
 -- what a count stores: 0 and 1 store nothing
@@ -24,9 +24,6 @@ storedOf n = pick (leb 2 n) n 0
 -- a row's index; and that it is below the next index, with a count of at least 2
 abbrev index : Entry → ℕ
 index e = e .idx
-
-abbrev sound : ℕ → Entry → Bool
-sound next e = ltb (e .idx) next && leb 2 (e .count)
 
 -- ---- looking an index up among the rows that pass a test of their index
 module _ (p : ℕ → Bool) (j : ℕ) (zs : List Entry) where

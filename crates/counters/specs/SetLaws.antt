@@ -74,18 +74,20 @@ module _ (n : ℕ) (t : List ℕ) (ok : InOrder n t) (i m k : ℕ) (here : k ≡
   set-replaced h e l =
       let b = behind-row n t ok i k here h e in
       let f = ok .laid .fits in
-      rw (set-one l, second-word t (k * 2) i m (omega arith) e)
-      (sym (put-same countRow (λ x. x .idx) firstWord (λ u. refl) n t (ok .laid) (in-order-sorted n t ok) i (suc i) k here b row),
-      put-replaced countRow (λ x. x .idx) firstWord (λ u. refl) n t (ok .laid) (in-order-sorted n t ok) i (suc i) k here b row)
+      rw (set-one l, second-word t (k * 2) i m (omega arith) e) (
+        sym (put-same countRow (λ x. x .idx) firstWord (λ u. refl) n t (ok .laid) (in-order-sorted n t ok) i (suc i) k here b row),
+        put-replaced countRow (λ x. x .idx) firstWord (λ u. refl) n t (ok .laid) (in-order-sorted n t ok) i (suc i) k here b row,
+      )
 
   pub set-removed : k < n → getD t (k * 2) 0 ≡ i → m < 2
       → (n - 1 ≡ length (setCount i m es))
       × (take (k * 2) t ++ (take (n * 2 - (k * 2 + 2)) (drop (k * 2 + 2) t) ++ (zeros 2 ++ drop (n * 2) t)) ≡ tableOf countRow (length t) (setCount i m es))
   set-removed h e l =
       let b = behind-row n t ok i k here h e in
-      rw (set-none l)
-      (sym (put-less countRow (λ x. x .idx) firstWord (λ u. refl) n t (ok .laid) (in-order-sorted n t ok) i (suc i) k here b),
-      put-removed countRow (λ x. x .idx) firstWord (λ u. refl) n t (ok .laid) (in-order-sorted n t ok) i (suc i) k here b)
+      rw (set-none l) (
+        sym (put-less countRow (λ x. x .idx) firstWord (λ u. refl) n t (ok .laid) (in-order-sorted n t ok) i (suc i) k here b),
+        put-removed countRow (λ x. x .idx) firstWord (λ u. refl) n t (ok .laid) (in-order-sorted n t ok) i (suc i) k here b,
+      )
 
   module _ (behind : k ≡ place (suc i) (keys firstWord 2 n t)) where
     pub room-more : 2 ≤ m → length (setCount i m es) * 2 ≤ length t → n * 2 + 2 ≤ length t
@@ -96,9 +98,10 @@ module _ (n : ℕ) (t : List ℕ) (ok : InOrder n t) (i m k : ℕ) (here : k ≡
         → (n + 1 ≡ length (setCount i m es))
         × (take (k * 2) t ++ ((i ∷ m ∷ []) ++ (take (n * 2 - k * 2) (drop (k * 2) t) ++ drop (n * 2 + 2) t)) ≡ tableOf countRow (length t) (setCount i m es))
     set-inserted l r =
-        rw (set-one l)
-        (sym (put-more countRow (λ x. x .idx) firstWord (λ u. refl) n t (ok .laid) (in-order-sorted n t ok) i (suc i) k here behind row),
-        put-inserted countRow (λ x. x .idx) firstWord (λ u. refl) n t (ok .laid) (in-order-sorted n t ok) i (suc i) k here behind row (room-more l r))
+        rw (set-one l) (
+          sym (put-more countRow (λ x. x .idx) firstWord (λ u. refl) n t (ok .laid) (in-order-sorted n t ok) i (suc i) k here behind row),
+          put-inserted countRow (λ x. x .idx) firstWord (λ u. refl) n t (ok .laid) (in-order-sorted n t ok) i (suc i) k here behind row (room-more l r),
+        )
 
     pub set-kept : m < 2 → (n ≡ length (setCount i m es)) × (t ≡ tableOf countRow (length t) (setCount i m es))
     set-kept l =
