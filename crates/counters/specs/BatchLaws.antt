@@ -15,18 +15,10 @@ use Rattle.base.specs.ListLaws.{or-false, Some, some-weaker, fold-reads, fold-u
 use Rattle.counters.specs.declared.CounterTransition.{CounterTransition}
 use Rattle.counters.specs.declared.CounterMaintenance.{CounterMaintenance}
 use Rattle.counters.specs.Counts.{Entry, State, storedAt, countAt, setCount}
-use Rattle.counters.specs.Maintenance.{falls, clears, grown, grownSets, maintained}
-use Rattle.counters.specs.Batch.{kept, births, deaths, falseOld, offTotal, countsAfter, stateAfter, applyKept, applyBatch}
+use Rattle.counters.specs.Maintenance.{falls, rises, clears, grown, grownSets, maintained}
+use Rattle.counters.specs.Batch.{kept, named, unallocated, births, deaths, falseOld, offTotal, countsAfter, stateAfter, applyKept, applyBatch}
 use Rattle.counters.specs.Layout.{ordered}
 use Rattle.counters.specs.CountLaws.{storedOf, stored-other, storedAt-setCount, countAt-setCount, setCount-swap, ordered-setCount, length-rowOf, length-setCount}
-
--- the indices that transitions name
-abbrev pub named : List CounterTransition → List ℕ
-named ts = map (λ t. t .idx .0) ts
-
--- the transition names an index at or above the next one
-abbrev pub unallocated : ℕ → CounterTransition → Bool
-unallocated next t = leb next (t .idx .0)
 
 -- ---- the count at each index
 module _ (i : ℕ) (ts : List CounterTransition) (es : List Entry) where
@@ -134,10 +126,6 @@ unfolding applyBatch
 batch-order r room s = applyKept-order (kept-order r) room s
 
 -- ---- how many counts are stored after a batch
--- the transition stores a count where none was
-abbrev pub rises : CounterTransition → Bool
-rises t = leb (t .«old_raw») 1 && leb 2 (t .«new_raw»)
-
 -- the old count of a transition that isn't refused is stored exactly where a count is
 true-old : (es : List Entry) (t : CounterTransition) → falseOld es t ≡ false → leb 2 (storedAt (t .idx .0) es) ≡ leb 2 (t .«old_raw»)
 unfolding falseOld

@@ -15,9 +15,9 @@ use Rattle.base.specs.ListLaws.{leb-le, ltb-lt, eqb-eq, fails-not, or-either, S
 use Rattle.base.specs.declared.Refusal.the-variants.{Spent, Unallocated, Repeated, OffTotal, FalseOld, TableFull}
 use Rattle.counters.specs.declared.CounterTransition.{CounterTransition}
 use Rattle.counters.specs.Counts.{Entry, State, storedAt, countAt, allocate, get}
-use Rattle.counters.specs.Batch.{kept, births, deaths, falseOld, offTotal, countsAfter, stateAfter, applyKept, applyBatch}
+use Rattle.counters.specs.Batch.{named, unallocated, kept, births, deaths, falseOld, offTotal, countsAfter, stateAfter, applyKept, applyBatch}
 use Rattle.counters.specs.Layout.{ordered}
-use Rattle.counters.specs.BatchLaws.{named, unallocated, ordered-countsAfter, count-named, count-unnamed}
+use Rattle.counters.specs.BatchLaws.{ordered-countsAfter, count-named, count-unnamed}
 use Rattle.base.specs.OutcomeLaws.{flat-three, flat-four, flat-five, flat-six, other-number, refused-taken, taken-refused, taken-same, ends-here, ends-later, never-ends, Refuses, refuses-none, refuses-step}
 
 -- ---- allocation
