@@ -3,14 +3,14 @@
 use mathlib.Core.Path.{_≡_, refl, ap}
 use mathlib.Core.Bool.{Bool, true, false, not, _||_}
 use mathlib.Core.List.{List, [], _∷_, _++_, map}
-use Prim.Native.Nat.{ℕ, suc, _+_, _*_, _^_, _≤_, _<_}
-use native.Mathlib.Nat.{mul-suc, mul-le-mul-left, pow-succ', pow-zero}
+use Prim.Native.Nat.{ℕ, zero, suc, _+_, _*_, _/_, _%_, _^_, _≤_, _<_}
+use native.Mathlib.Nat.{mul-suc, mul-add, mul-assoc, mul-le-mul-left, mod-lt, pow-succ', pow-zero}
 use native.Mathlib.Omega.{arith}
 use lib.ListN.{length}
 use lib.Dec.{leb, ltb}
-use borrow.Author.Tests.{ltb-true, leb-true, le-leb}
+use borrow.Author.Tests.{ltb-true, leb-true, lt-ltb, le-leb}
 use Rattle.base.specs.Logic.{pick, all, keep, sumOf, ascendingFrom, sortedFrom}
-use Rattle.base.specs.Bytes.{number}
+use Rattle.base.specs.Bytes.{digits, number}
 use Rattle.base.specs.Laws.{and-left, and-right, and-both, sorted-head, sorted-tail, sorted-lower, ascending-head, ascending-tail, ascending-lower}
 
 -- k digits spell a number below b ^ k
@@ -22,6 +22,19 @@ number-bound b (x ∷ xs) e =
     let l : suc (number b xs) ≤ b ^ length xs = number-bound b xs (and-right (ltb x b) _ e) in
     let m : b * suc (number b xs) ≤ b * b ^ length xs = mul-le-mul-left b l in
     rw (pow-succ' b (length xs)) (omega (arith, mul-suc b (number b xs)))
+
+-- the number that digits spell in two parts
+pub number-append : (b : ℕ) (xs ys : List ℕ) → number b (xs ++ ys) ≡ number b xs + b ^ length xs * number b ys
+unfolding number
+number-append b [] ys = rw (pow-zero b) (omega arith)
+number-append b (x ∷ xs) ys =
+    rw (number-append b xs ys, pow-succ' b (length xs), mul-add b (number b xs) (b ^ length xs * number b ys), mul-assoc b (b ^ length xs) (number b ys)) (omega arith)
+
+-- digits are below the base
+pub digits-below : (b k n : ℕ) → 0 < b → all (λ x. ltb x b) (digits b k n) ≡ true
+unfolding digits all
+digits-below b zero n p = refl
+digits-below b (suc k) n p = rw (lt-ltb (n % b) b (mod-lt n p)) (digits-below b k (n / b) p)
 
 -- ---- neither test passes where their disjunction doesn't
 pub or-left : (a b : Bool) → (a || b) ≡ false → a ≡ false
