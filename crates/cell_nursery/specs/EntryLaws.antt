@@ -19,10 +19,10 @@ use Rattle.cell_nursery.specs.Entries.{Entry, Waiting, State, empty, cel
 use Rattle.cell_nursery.specs.Items.{Delta}
 use Rattle.cell_nursery.specs.Delta.{Room, used, full, stateAfter}
 use Rattle.cell_nursery.specs.Drain.{due, drained, lookup}
-use Rattle.cell_nursery.specs.GeneralLaws.{or-left, or-right, all-one, sum-keep, length-keep, all-keep, keep-ascending, keep-sorted}
+use Rattle.base.specs.MoreLaws.{or-left, or-right, all-one, sum-keep, length-keep, all-keep, keep-ascending, keep-sorted}
 use Rattle.cell_nursery.specs.ItemLaws.{fitsItem, item-fits}
 use Rattle.cell_nursery.specs.LayoutLaws.{fitsWaiting, WellFormed}
-use Rattle.cell_nursery.specs.RowLaws.{put-one-ascending, put-one-sorted, all-put, sum-put, length-put, length-put-between, keep-absent}
+use Rattle.rows.specs.RowLaws.{put-one-ascending, put-one-sorted, all-put, sum-put, length-put, length-put-between, keep-absent}
 
 -- ---- the entry of a hash
 

@@ -1,6 +1,6 @@
 -- A hash, its four words and its 32 bytes: each gives the others back.
 -- Assumes nothing.
-use mathlib.Core.Path.{_≡_, ap, _∙_}
+use mathlib.Core.Path.{_≡_, refl, ap, _∙_}
 use mathlib.Core.Bool.{true}
 use mathlib.Core.List.{List, [], _∷_, _++_, reverse, reverse-append, append-assoc}
 use Prim.Native.Nat.{ℕ, _+_, _/_, _%_, _^_, _≤_, _<_}
@@ -10,14 +10,13 @@ use lib.ListN.{length, drop, getD, length-append, length-reverse}
 use lib.Seq.{getD-drop}
 use lib.Dec.{ltb}
 use borrow.Author.Tests.{lt-ltb}
-use Rattle.base.specs.Logic.{all, from}
+use Rattle.base.specs.Logic.{all}
 use Rattle.base.specs.Bytes.{digits, number, unbe, be64}
 use Rattle.base.specs.Laws.{length-digits, number-digits, digits-number, digit-number}
 use Rattle.rows.specs.Keys.{firstFour}
-use Rattle.rows.specs.TableLaws.{first-words}
 use Rattle.cell_nursery.specs.Entries.{hashBytes}
 use Rattle.cell_nursery.specs.Layout.{HashWords, hashWords, hashOf, hashAt}
-use Rattle.cell_nursery.specs.GeneralLaws.{all-append, number-bound, number-append, digits-below}
+use Rattle.base.specs.MoreLaws.{all-append, number-bound, number-append, digits-below}
 
 pub hash-words : (h : ℕ) → h < 2 ^ 256 → hashOf (hashWords h) ≡ h
 unfolding hashOf hashWords digits
@@ -69,9 +68,9 @@ pub words-at : (i : ℕ) (t : List ℕ) → U64 t → Words64 (hashAt i t)
 words-at i t u = record { first = u i; second = u (i + 1); third = u (i + 2); fourth = u (i + 3) }
 
 -- the hash at the start of a row is the number that its first four words spell
-pub hash-first : (t : List ℕ) → 4 ≤ length t → hashOf (hashAt 0 t) ≡ firstFour t
-unfolding hashOf firstFour from
-hash-first t h = rw (← first-words 4 t h)
+pub hash-first : (t : List ℕ) → hashOf (hashAt 0 t) ≡ firstFour t
+unfolding hashOf firstFour
+hash-first t = refl
 
 -- ---- a hash's 32 bytes are its words' bytes
 

@@ -12,22 +12,11 @@ use lib.Dec.{leb, ltb, eqb}
 use borrow.Author.Tests.{lt-ltb, le-ltb, le-leb, lt-leb, eq-eqb, ne-eqb, eqb-false, ltb-true}
 use Rattle.base.specs.Logic.{all, any, elem, keep, sumOf, ascendingFrom, sortedFrom}
 use Rattle.base.specs.Laws.{sorted-head, sorted-tail, ascending-tail, ascending-sorted}
 use Rattle.rows.specs.Table.{Coding, rowsOf, tableOf, holdsRows}
 use Rattle.rows.specs.TableLaws.{rowsOf-table, laid-table, laid-holds, length-table}
 use Rattle.rows.specs.Keys.{keys, place, putRows}
 use Rattle.rows.specs.KeyLaws.{place-lt, place-ge, behind-hit, putRows-places}
-use Rattle.cell_nursery.specs.GeneralLaws.{or-left, or-right, all-append, all-map, all-if, sum-append, length-sum, ascending-append, sorted-append, all-keep, all-kept, keep-map, keep-ascending, keep-sorted}
-
--- the keys of a table's rows, where the key is read off a row's own words
-pub keys-rows : {E : Type 0} (c : Coding E) (key : E → ℕ) (word : List ℕ → ℕ)
-    → ((t : List ℕ) → c .width ≤ length t → key (c .dec t) ≡ word t)
-    → (n : ℕ) (t : List ℕ) → n * c .width ≤ length t → map key (rowsOf c n t) ≡ keys word (c .width) n t
-unfolding rowsOf keys
-keys-rows c key word same zero t h = refl
-keys-rows c key word same (suc n) t h =
-    let m = suc-mul n (c .width) in
-    let r : n * c .width ≤ length (drop (c .width) t) = simp length-drop (omega arith) in
-    rw (same t (omega arith), keys-rows c key word same n (drop (c .width) t) r)
+use Rattle.base.specs.MoreLaws.{or-left, or-right, all-append, all-map, all-if, sum-append, length-sum, ascending-append, sorted-append, all-keep, all-kept, keep-map, keep-ascending, keep-sorted}
 
 -- the canonical table of n rows: it spells them, holds them, and has its length
 pub record IsTable {E : Type 0} (c : Coding E) (n len : ℕ) (es : List E) (t : List ℕ) : Type 0 where
