@@ -148,6 +148,7 @@ pub record MaintenanceBounds : Type 0 where
   under-third : shouldShrink 4 1 1 ≡ false
   -- bytes saved: from 1,048,576 the threshold resets, below that it doubles, up to 2,097,152
   resets : adjustShrinkThreshold standard 1048576 262144 ≡ 131072
+  resets-above : adjustShrinkThreshold standard 1048577 262144 ≡ 131072
   doubles : adjustShrinkThreshold standard 1048575 262144 ≡ 524288
   doubles-to-most : adjustShrinkThreshold standard 0 1048576 ≡ 2097152
   stays-at-most : adjustShrinkThreshold standard 0 2097152 ≡ 2097152
@@ -239,6 +240,7 @@ maintenance-bounds =
       third = refl;
       under-third = refl;
       resets = refl;
+      resets-above = refl;
       doubles = refl;
       doubles-to-most = refl;
       stays-at-most = refl;
