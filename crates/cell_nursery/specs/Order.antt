@@ -10,12 +10,13 @@ use mathlib.Core.List.{List, [], _∷_, _++_}
 use lib.ListN.{length, take, replicate}
 use Rattle.base.specs.Logic.{flat, fold, zeros}
 use Rattle.base.specs.Bytes.{le32, le64}
-use Rattle.base.specs.Answers.{answerNumber}
+use Rattle.base.specs.Answers.{answerNumber, answerOf}
 use Rattle.base.specs.declared.Answer.the-variants.{Taken, Refused}
 use Rattle.base.specs.declared.Refusal.the-variants.{Present, OutputFull, Broken}
 use Rattle.cell_nursery.specs.declared.Nursery.{Nursery}
 use Rattle.cell_nursery.specs.Entries.{Entry, State, empty, hashBytes, insert, remove}
 use Rattle.cell_nursery.specs.Items.{itemBytes}
+use Rattle.cell_nursery.specs.Delta.{applyDelta}
 use Rattle.cell_nursery.specs.Drain.{promotionDelay, drainBytes, listingBytes}
 use Rattle.cell_nursery.specs.Layout.{recordOf, entriesTable, waitingTable, cellsTable}
 use Rattle.cell_nursery.specs.Calls.{Changed, DrainedOut, deltaCall, drainCall, lookupCall, listingCall}
@@ -52,7 +53,12 @@ wide s room bytes is =
     answerNumber (deltaCall (recordOf s) (entriesTable (8 * room) s) (waitingTable (5 * room) s) (cellsTable bytes s) true (length is) 0
     (flat wideBytes is) .result .answer)
 
--- the same of lent counts and items, into empty tables of given lengths
+-- the number that the operation itself gives on some inserts: quicker where a cell is long
+abbrev applied : State → ℕ → ℕ → List Entry → ℕ
+applied s room bytes is =
+    answerNumber (answerOf (applyDelta (record { entries = room; cells = bytes }) s (record { inserts = is; removes = [] })))
+
+-- the number that a delta of lent counts and items is answered with, in empty tables of given lengths
 abbrev items : ℕ → ℕ → ℕ → ℕ → ℕ → List ℕ → ℕ
 items le lw lc is rs bs = answerNumber (deltaCall (recordOf empty) (zeros le) (zeros lw) (zeros lc) false is rs bs .result .answer)
 
@@ -60,10 +66,15 @@ items le lw lc is rs bs = answerNumber (deltaCall (recordOf empty) (zeros le) (z
 abbrev drain : State → ℕ → ℕ → List ℕ → DrainedOut
 drain s n round out = drainCall promotionDelay (recordOf s) (entriesTable (8 * n) s) (waitingTable (5 * n) s) (cellsTable 0 s) round out
 
--- what a draining of the hash 1, an empty cell, gives: 42 bytes
+-- the nursery with the hash 1, born at round 0, with an empty cell
 abbrev one : State
 one = with (plain 1 ∷ [])
 
+-- that nursery after the hash was handed out
+abbrev drainedOne : State
+drainedOne = record { entries = plain 1 ∷ []; waiting = [] }
+
+-- what draining `one` at round 100 gives: 42 bytes
 abbrev handed : List ℕ
 handed = drainBytes promotionDelay 100 one
 
@@ -74,11 +85,11 @@ listed = listingBytes (plain 1 ∷ [])
 pub record RefusalOrder : Type 0 where
   -- delta: 14, 12, 13
   -- an insert of a hash that is there, with a cell of 65,536 bytes
-  fourteen-before-twelve : wide one 1 0 (entry 1 0 65536 ∷ []) ≡ 14
+  fourteen-before-twelve : applied one 1 0 (entry 1 0 65536 ∷ []) ≡ 14
   -- an insert of a hash that is there, and no room for it
   twelve-before-thirteen : delta one 1 0 (plain 1 ∷ []) [] ≡ 12
   -- each test is over the whole delta
-  fourteen-over-all : wide one 1 0 (plain 1 ∷ entry 2 0 65536 ∷ []) ≡ 14
+  fourteen-over-all : applied one 1 0 (plain 1 ∷ entry 2 0 65536 ∷ []) ≡ 14
   twelve-over-all : delta empty 0 0 (plain 1 ∷ plain 1 ∷ []) [] ≡ 12
   -- 20 comes before all others: a word past the rows, and a cell of 65,536 bytes
   broken-before-fourteen : answerNumber (deltaCall (recordOf empty) (3 ∷ []) [] [] true 1 0 (wideBytes (entry 1 0 65536)) .result .answer) ≡ 20
@@ -96,6 +107,9 @@ pub record RefusalBounds : Type 0 where
   full-entries : items 15 10 0 2 0 (itemBytes (record { inserts = plain 1 ∷ plain 2 ∷ []; removes = [] })) ≡ 13
   full-waiting : items 16 9 0 2 0 (itemBytes (record { inserts = plain 1 ∷ plain 2 ∷ []; removes = [] })) ≡ 13
   not-full : items 16 10 0 2 0 (itemBytes (record { inserts = plain 1 ∷ plain 2 ∷ []; removes = [] })) ≡ 0
+  -- 13: the smaller table counts after a draining too, as in a box read in every entry waits again
+  full-drained : answerNumber (deltaCall (recordOf drainedOne) (entriesTable 24 drainedOne) (waitingTable 5 drainedOne) [] false 1 0
+      (itemBytes (record { inserts = plain 2 ∷ []; removes = [] })) .result .answer) ≡ 13
   -- 13: cell bytes
   full-cells : delta empty 2 2 (entry 1 0 1 ∷ entry 2 0 2 ∷ []) [] ≡ 13
   not-full-cells : delta empty 2 3 (entry 1 0 1 ∷ entry 2 0 2 ∷ []) [] ≡ 0
@@ -106,7 +120,7 @@ pub record RefusalBounds : Type 0 where
       (itemBytes (record { inserts = plain 2 ∷ []; removes = [] })) .result .answer)
       ≡ 0
   -- 14: a cell of 65,535 bytes, and of one more
-  long-cell : wide empty 1 65535 (entry 1 0 65535 ∷ []) ≡ 0
+  long-cell : applied empty 1 65535 (entry 1 0 65535 ∷ []) ≡ 0
   too-long-cell : wide empty 1 65536 (entry 1 0 65536 ∷ []) ≡ 14
   -- 20: an insert of 45 bytes and a remove of 31 are no delta; bytes after the last item are ignored
   insert-short : items 8 5 0 1 0 (zeros 45) ≡ 20
@@ -225,6 +239,7 @@ refusal-bounds =
       full-entries = refl;
       full-waiting = refl;
       not-full = refl;
+      full-drained = refl;
       full-cells = refl;
       not-full-cells = refl;
       full-before-removes = refl;
