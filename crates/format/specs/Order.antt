@@ -109,7 +109,7 @@ pub record RefusalBounds : Type 0 where
   items-short : answerNumber (encodedTo [] 0 1 (zeros 31) .result .answer) ≡ 20
   items-long : answerNumber (encodedTo (zeros 88) 0 1 (zeros 33) .result .answer) ≡ 0
   -- beside a refusal stand zeros
-  refused : decodeCall firstBytes (recordOf (zeros 15)) ≡ record { answer = Refused Misfit; id = 0; hash = zeros 32; stats = stats 0 0 0 0 0 }
+  refused : decodeCall firstBytes (recordOf (zeros 15)) ≡ record { answer = Refused Misfit; id = 0; hash = zeros 32; «items_at» = 0; «items_len» = 0; stats = stats 0 0 0 0 0 }
 
 -- an insert of the hash 258 and a cell of 3 bytes, at index 772, born at round 1286; and the hash 1800 removed
 abbrev sample : Entry
@@ -129,7 +129,8 @@ pub record Fields : Type 0 where
   encoded : encodeCall firstBytes 2571 false 1 1 sampleItems (zeros 137)
       ≡ record { result = record { answer = Taken; len = 137; stats = stats 97 94 3 1 1 }; out = take 32 covered ++ covered }
   decoding : decodeCall firstBytes (take 32 covered ++ covered)
-      ≡ record { answer = Taken; id = 2571; hash = take 32 covered; stats = stats 97 94 3 1 1 }
+      ≡ record { answer = Taken; id = 2571; hash = take 32 covered; «items_at» = 56; «items_len» = 81; stats = stats 97 94 3 1 1 }
+  items : take 81 (drop 56 (take 32 covered ++ covered)) ≡ sampleItems
   -- the lengths of document 01: no item, and one insert of 3 bytes
   empty-length : length (recordBytes firstBytes 0 (record { inserts = []; removes = [] })) ≡ 56
   insert-length : length (recordBytes firstBytes 0 (record { inserts = sample ∷ []; removes = [] })) ≡ 105
@@ -184,6 +185,7 @@ fields =
       bytes = refl;
       encoded = refl;
       decoding = refl;
+      items = refl;
       empty-length = refl;
       insert-length = refl;
     }
