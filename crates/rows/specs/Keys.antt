@@ -1,8 +1,8 @@
 -- The keys of a table's rows, the place of a key among them, and a row put in its place.
 -- Assumes nothing.
 use Prim.Native.Nat.{ℕ, zero, suc, _^_}
-use mathlib.Core.List.{List, [], _∷_, _++_, reverse}
-use lib.ListN.{getD, take, drop}
+use mathlib.Core.List.{List, [], _∷_, _++_}
+use lib.ListN.{getD, drop}
 use lib.Dec.{leb, ltb}
 use Rattle.base.specs.Logic.{pick, keep}
 use Rattle.base.specs.Bytes.{number}
@@ -12,7 +12,7 @@ abbrev pub firstWord : List ℕ → ℕ
 firstWord t = getD t 0 0
 
 unfoldable pub firstFour : List ℕ → ℕ
-firstFour t = number (2 ^ 64) (reverse (take 4 t))
+firstFour t = number (2 ^ 64) (getD t 3 0 ∷ getD t 2 0 ∷ getD t 1 0 ∷ getD t 0 0 ∷ [])
 
 -- the keys of the first n rows of w words
 unfoldable pub keys : (List ℕ → ℕ) → ℕ → ℕ → List ℕ → List ℕ

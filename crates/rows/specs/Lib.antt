@@ -9,5 +9,6 @@ pub mod KeyLaws
 pub mod MoveLaws
 pub mod PutLaws
 pub mod OrderLaws
+pub mod RowLaws
 pub mod WideLaws
 pub mod Open

@@ -16,7 +16,7 @@ use Rattle.base.specs.Laws.{and-left, and-right, and-both, flat-append, drop-ze
 use Rattle.rows.specs.Table.{Coding, rowsOf, tableOf, holdsRows, Laid}
 
 -- ---- the first w words of a list, one by one: what a coding of width w reads and writes
-pub words-from : (w p : ℕ) (t : List ℕ) → p + w ≤ length t → map (λ i. getD t i 0) (from p w) ≡ take w (drop p t)
+words-from : (w p : ℕ) (t : List ℕ) → p + w ≤ length t → map (λ i. getD t i 0) (from p w) ≡ take w (drop p t)
 unfolding from
 words-from zero p t h = refl
 words-from (suc w) p t h = rw (drop-cons t p 0 (omega arith)) (ap (λ (l : List ℕ). getD t p 0 ∷ l) (words-from w (suc p) t (omega arith)))

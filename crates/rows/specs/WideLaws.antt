@@ -1,29 +1,26 @@
 -- Keys of four words order as their words do, the highest first.
 -- Assumes nothing.
-use mathlib.Core.Path.{_≡_, refl, sym, ap, _∙_}
-use mathlib.Core.List.{List, [], _∷_, map, reverse}
-use Prim.Native.Nat.{ℕ, suc, _+_, _*_, _^_, _≤_, _<_}
+use mathlib.Core.Path.{_≡_, sym, ap, _∙_}
+use mathlib.Core.List.{List}
+use Prim.Native.Nat.{ℕ, _+_, _*_, _^_, _<_}
 use native.Mathlib.Omega.{arith}
-use native.Mathlib.Numerals.{add-one}
 use native.Mathlib.Decide.{decLt}
-use lib.ListN.{length, take, drop, getD}
+use lib.ListN.{drop, getD}
+use lib.Seq.{getD-drop}
 use lib.Dec.{ltb}
 use borrow.Author.Tests.{le-ltb, lt-ltb}
-use Rattle.base.specs.Logic.{from}
 use Rattle.base.specs.Bytes.{number}
 use Rattle.rows.specs.declared.Wide.{Wide}
-use Rattle.rows.specs.TableLaws.{words-from}
 use Rattle.rows.specs.Keys.{firstFour}
 use Rattle.rows.specs.Wide.{keyOf}
 
 -- the key of a row whose words begin at a place
-pub four-at : (t : List ℕ) (at : ℕ) → at + 4 ≤ length t
+pub four-at : (t : List ℕ) (at : ℕ)
     → keyOf (record { 0 = getD t at 0; 1 = getD t (at + 1) 0; 2 = getD t (at + 2) 0; 3 = getD t (at + 3) 0 }) ≡ firstFour (drop at t)
-unfolding keyOf firstFour from
-four-at t at h =
-    let two : at + 2 ≡ suc (suc at) = omega arith in
-    let three : at + 3 ≡ suc (suc (suc at)) = omega arith in
-    rw (add-one, two, three) (ap (λ (l : List ℕ). number (2 ^ 64) (reverse l)) (words-from 4 at t h))
+unfolding keyOf firstFour
+four-at t at =
+    let q : at + 0 ≡ at = omega arith in
+    rw (getD-drop at t 0 0, getD-drop at t 1 0, getD-drop at t 2 0, getD-drop at t 3 0, q)
 
 -- a higher word that differs decides; where it doesn't, the lower one does
 high : (x y u v : ℕ) → x < 2 ^ 64 → y < 2 ^ 64 → (u ≡ v → ⊥) → ltb u v ≡ ltb (x + 2 ^ 64 * u) (y + 2 ^ 64 * v)

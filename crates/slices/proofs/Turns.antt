@@ -1,7 +1,7 @@
 -- A turn of each loop and its end, over lists: the proofs for words and for bytes cite the same laws.
 -- Assumes nothing.
 use mathlib.Core.Path.{_≡_, refl, sym, ap, _∙_}
-use mathlib.Core.Bool.{Bool, true, _&&_, and-assoc, and-comm, and-true}
+use mathlib.Core.Bool.{Bool, _&&_, and-assoc, and-true}
 use mathlib.Core.List.{List, [], _∷_, _++_, append-assoc}
 use Prim.Native.Nat.{ℕ, zero, suc, _+_, _-_, _≤_, _<_}
 use native.Mathlib.Nat.{add-suc}
@@ -9,7 +9,7 @@ use native.Mathlib.Numerals.{add-one}
 use native.Mathlib.Omega.{arith}
 use lib.Dec.{eqb, eqb·zero-suc, eqb·suc-zero, eqb·suc-suc}
 use lib.ListN.{length, getD, set, take, drop, replicate, length-drop, length-replicate, getD-replicate, drop-of-length-le}
-use lib.Seq.{paste, paste-zero, paste-suc, take-set-le, take-suc, drop-cons, getD-drop, append-snoc}
+use lib.Seq.{paste, paste-suc, take-suc, drop-cons, getD-drop, append-snoc}
 use Rattle.base.specs.Logic.{all, allZero, eqbList}
 use Rattle.slices.specs.Laws.{take-paste-before, drop-paste-at, part-paste-before, getD-paste-after, paste-one}
 

@@ -1,9 +1,9 @@
 -- Laws of pastes, by which every function of this crate that writes says what it leaves: `lib.Seq.paste t at s n` is t with its n
 -- items from index `at` replaced by the first n of s. `lib.Seq` has more of them: `length-paste`, `take-paste`, `drop-paste`,
--- `paste-zero`, `paste-suc`. Then laws of the two tests on lists.
+-- `paste-zero`, `paste-suc`. Laws of parts come first, and laws of the test whether two lists are the same last.
 -- Assumes nothing.
 use mathlib.Core.Path.{_≡_, refl, sym, ap, ap₂, _∙_}
-use mathlib.Core.Bool.{Bool, true, false, _&&_}
+use mathlib.Core.Bool.{Bool, true, false}
 use mathlib.Core.List.{List, [], _∷_, _++_, append-assoc}
 use Prim.Native.Nat.{ℕ, zero, suc, _+_, _-_, _≤_, _<_}
 use native.Mathlib.Nat.{zero-add, suc-add, add-assoc}
@@ -11,7 +11,7 @@ use native.Mathlib.Numerals.{add-one}
 use native.Mathlib.Omega.{arith}
 use borrow.Author.Tests.{eqb-true, eq-eqb}
 use lib.Dec.{eqb}
-use lib.ListN.{length, getD, set, take, drop, length-append, length-drop, take-append-drop}
+use lib.ListN.{length, getD, set, take, drop, length-set, length-append, length-drop, take-append-drop}
 use lib.Seq.{paste, take-paste, drop-paste, take-nil, take-take, take-all, drop-append-le, drop-drop, getD-take, getD-drop, take-add, take-at, drop-at, length-take-le, append-snoc, set-split}
 use Rattle.base.specs.Logic.{overlay, eqbList}
 use Rattle.base.specs.Laws.{and-left, and-right}
@@ -25,6 +25,13 @@ module _ {A : Type 0} where
   part-front k (suc i) zero l h = absurd (omega arith)
   part-front k (suc i) (suc m) [] h = refl
   part-front k (suc i) (suc m) (x ∷ xs) h = part-front k i m xs (omega arith)
+
+  -- a part in two
+  pub part-split : (s : List A) (at j k : ℕ) → take (j + k) (drop at s) ≡ take j (drop at s) ++ take k (drop (at + j) s)
+  part-split s at j k = rw (take-add j k (drop at s), drop-drop j at s)
+
+  pub length-part : (s : List A) (at k : ℕ) → at + k ≤ length s → length (take k (drop at s)) ≡ k
+  length-part s at k h = length-take-le k (drop at s) (simp length-drop (omega arith))
 
   -- the rest of a front is the front of the rest
   pub drop-take : (i k : ℕ) (l : List A) → drop i (take (i + k) l) ≡ take k (drop i l)
@@ -163,6 +170,15 @@ module _ {A : Type 0} where
   pub paste-one : (t : List A) (at : ℕ) (x : A) → at < length t → paste t at (x ∷ []) 1 ≡ set t at x
   paste-one t at x h = rw (add-one at, append-snoc (take at t) x (drop (suc at) t)) (sym (set-split t at x h))
 
+  -- two stores side by side are a paste of two
+  pub paste-two : (t : List A) (at : ℕ) (x y : A) → at + 2 ≤ length t → set (set t at x) (at + 1) y ≡ paste t at (x ∷ y ∷ []) 2
+  paste-two t at x y h =
+      let p : at < length t = omega arith in
+      let q : at + 1 < length (set t at x) = rw (length-set t at x) (omega arith) in
+      sym (paste-one (set t at x) (at + 1) y q)
+      ∙ ap (λ (l : List A). paste l (at + 1) (y ∷ []) 1) (sym (paste-one t at x p))
+      ∙ paste-append t at (x ∷ []) (y ∷ []) 1 1 refl refl (omega arith)
+
   -- a part that is lent from a to e, and a copy of it
   pub part-lent : (s : List A) (a e n : ℕ) → e ≡ a + n → take (e - a) (drop a s) ≡ take n (drop a s)
   part-lent s a e n h =
@@ -172,8 +188,7 @@ module _ {A : Type 0} where
   pub paste-part : (t : List A) (at : ℕ) (s : List A) (a e n : ℕ) → e ≡ a + n → e ≤ length s
       → paste t at (take (e - a) (drop a s)) (length (take (e - a) (drop a s))) ≡ paste t at (drop a s) n
   paste-part t at s a e n h k =
-      let l : length (take n (drop a s)) ≡ n = length-take-le n (drop a s) (simp length-drop (omega arith)) in
-      rw (part-lent s a e n h, l) (paste-take t at (drop a s) n)
+      rw (part-lent s a e n h, length-part s a n (omega arith)) (paste-take t at (drop a s) n)
 
   -- a part that was lent, and came back as s
   pub paste-lent : (t : List A) (at : ℕ) (s : List A) (n : ℕ) → length s ≡ n → take at t ++ (s ++ drop n (drop at t)) ≡ paste t at s n
@@ -199,10 +214,12 @@ eqbList-false xs ys e p =
     let z : _≡_ {A = ℕ} 0 1 = cc (eqbList-refl xs) in
     omega arith
 
--- lists of different lengths are not
-pub eqbList-lengths : (xs ys : List ℕ) → (length xs ≡ length ys → ⊥) → eqbList xs ys ≡ false
-eqbList-lengths xs ys h = differs (eqbList xs ys) (λ e. h (ap length (eqbList-true xs ys e)))
+pub eqbList-other : (xs ys : List ℕ) → (xs ≡ ys → ⊥) → eqbList xs ys ≡ false
+eqbList-other xs ys h = differs (eqbList xs ys) (λ e. h (eqbList-true xs ys e))
   where
     differs : (b : Bool) → (b ≡ true → ⊥) → b ≡ false
     differs true f = absurd (f refl)
     differs false f = refl
+
+pub eqbList-lengths : (xs ys : List ℕ) → (length xs ≡ length ys → ⊥) → eqbList xs ys ≡ false
+eqbList-lengths xs ys h = eqbList-other xs ys (λ e. h (ap length e))

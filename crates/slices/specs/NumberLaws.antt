@@ -1,9 +1,9 @@
 -- Laws of numbers in bytes: of digits to any base end to end, and of the parts of a list that are read and written as numbers.
 -- Assumes nothing.
 use mathlib.Core.Path.{_≡_, refl, sym, ap, ap₂, _∙_}
-use mathlib.Core.Bool.{Bool, true, false}
-use mathlib.Core.Option.{Option, none, some}
-use mathlib.Core.List.{List, [], _∷_, _++_, reverse, reverse-append}
+use mathlib.Core.Bool.{true}
+use mathlib.Core.Option.{none, some}
+use mathlib.Core.List.{List, [], _∷_, _++_, reverse, reverse-append, reverse-reverse}
 use Prim.Native.Nat.{ℕ, zero, suc, _+_, _*_, _/_, _%_, _^_, _≤_, _<_}
 use native.Mathlib.Nat.{zero-add, suc-add, add-assoc, add-comm, mul-add, mul-assoc, mul-comm, pow-zero, pow-suc, pow-succ', div-one, div-div-eq-div-mul, mod-lt, one-le-pow}
 use native.Mathlib.Numerals.{add-one}
@@ -11,12 +11,12 @@ use native.Mathlib.Omega.{arith}
 use borrow.Author.Tests.{ltb-true, lt-ltb, le-leb, lt-leb}
 use lib.Arith.{mod-mul, digits-div, digits-mod, digits-lt}
 use lib.Dec.{ltb}
-use lib.ListN.{length, getD, set, take, drop, length-set, length-drop, length-reverse}
-use lib.Seq.{paste, take-add, drop-drop, drop-cons, length-take-le}
+use lib.ListN.{length, getD, set, take, drop, length-drop, length-reverse}
+use lib.Seq.{paste, take-all, getD-take, getD-drop, drop-drop, drop-cons}
 use Rattle.base.specs.Logic.{all}
 use Rattle.base.specs.Bytes.{digits, number, unle, unbe, be, cut, readLe}
-use Rattle.base.specs.Laws.{and-left, and-right, and-both, length-digits}
-use Rattle.slices.specs.Laws.{paste-append, paste-one}
+use Rattle.base.specs.Laws.{and-left, and-right, and-both, length-digits, number-digits, digits-number}
+use Rattle.slices.specs.Laws.{part-split, length-part, part-paste, paste-append, paste-two}
 
 -- ---- digits end to end
 
@@ -40,6 +40,13 @@ digits-low b (suc j) n p =
     let h : n % b < b = mod-lt n p in
     rw (e, digits-mod (n / b % b ^ j) h, digits-div (n / b % b ^ j) h, digits-low b j (n / b) p)
 
+-- the same of bytes with the highest first
+pub length-be : (k n : ℕ) → length (be k n) ≡ k
+length-be k n = length-reverse (digits 256 k n) ∙ length-digits 256 k n
+
+pub be-append : (j k n : ℕ) → be (j + k) n ≡ be k (n / 256 ^ j) ++ be j n
+be-append j k n = rw (digits-append 256 j k n) (reverse-append (digits 256 j n) (digits 256 k (n / 256 ^ j)))
+
 -- digits below the base spell a number below its power
 pub number-below : (b : ℕ) (xs : List ℕ) → all (λ x. ltb x b) xs ≡ true → number b xs < b ^ length xs
 unfolding number all
@@ -47,6 +54,11 @@ number-below b [] e = rw (pow-zero b) (omega arith)
 number-below b (x ∷ xs) e =
     let h : x < b = ltb-true x b (and-left (ltb x b) (all (λ y. ltb y b) xs) e) in
     rw (pow-suc b (length xs), add-comm x, mul-comm b) (digits-lt (number-below b xs (and-right (ltb x b) (all (λ y. ltb y b) xs) e)) h)
+
+-- as many digits that spell the same number are the same
+pub number-same : (b : ℕ) (xs ys : List ℕ) → all (λ x. ltb x b) xs ≡ true → all (λ x. ltb x b) ys ≡ true → length xs ≡ length ys → number b xs ≡ number b ys
+    → xs ≡ ys
+number-same b xs ys p q l e = sym (digits-number b xs p) ∙ ap₂ (λ (k n : ℕ). digits b k n) l e ∙ digits-number b ys q
 
 -- items that are each below a bound pass the test for it
 pub all-below : (b : ℕ) (xs : List ℕ) → ((i : ℕ) → i < length xs → getD xs i 0 < b) → all (λ x. ltb x b) xs ≡ true
@@ -56,12 +68,6 @@ all-below b (x ∷ xs) h =
     and-both (ltb x b) (all (λ y. ltb y b) xs) (lt-ltb x b (h 0 (omega arith))) (all-below b xs (λ i k. h (suc i) (omega arith)))
 
 -- ---- a part of a list as a number: the number of a part in two
-
-pub part-split : {A : Type 0} (s : List A) (at j k : ℕ) → take (j + k) (drop at s) ≡ take j (drop at s) ++ take k (drop (at + j) s)
-part-split s at j k = rw (take-add j k (drop at s), drop-drop j at s)
-
-pub length-part : {A : Type 0} (s : List A) (at k : ℕ) → at + k ≤ length s → length (take k (drop at s)) ≡ k
-length-part s at k h = length-take-le k (drop at s) (simp length-drop (omega arith))
 
 module _ (s : List ℕ) (at j k : ℕ) (fits : at + (j + k) ≤ length s) where
   -- the lowest first
@@ -96,14 +102,6 @@ unbe-two s at h = rw (part-two s at h) (omega arith)
 
 -- ---- a number written in two bytes
 
-pub paste-two : {A : Type 0} (t : List A) (at : ℕ) (x y : A) → at + 2 ≤ length t → set (set t at x) (at + 1) y ≡ paste t at (x ∷ y ∷ []) 2
-paste-two {A} t at x y h =
-    let p : at < length t = omega arith in
-    let q : at + 1 < length (set t at x) = rw (length-set t at x) (omega arith) in
-    sym (paste-one (set t at x) (at + 1) y q)
-    ∙ ap (λ (l : List A). paste l (at + 1) (y ∷ []) 1) (sym (paste-one t at x p))
-    ∙ paste-append t at (x ∷ []) (y ∷ []) 1 1 refl refl (omega arith)
-
 module _ (t : List ℕ) (at x : ℕ) (small : x < 65536) (fits : at + 2 ≤ length t) where
   upper : x / 256 % 256 ≡ x / 256
   upper = omega arith
@@ -121,32 +119,58 @@ module _ (t : List ℕ) (at x : ℕ) (small : x < 65536) (fits : at + 2 ≤ leng
 -- ---- a number written in two halves: o is the list after the first
 
 module _ (t o : List ℕ) (at j k x : ℕ) (fits : at ≤ length t) where
-  low : length (digits 256 j x) ≡ j
-  low = length-digits 256 j x
-
-  high : length (digits 256 k (x / 256 ^ j)) ≡ k
-  high = length-digits 256 k (x / 256 ^ j)
-
   -- the lowest first
   pub paste-le : o ≡ paste t at (digits 256 j (x % 256 ^ j)) j → paste o (at + j) (digits 256 k (x / 256 ^ j)) k ≡ paste t at (digits 256 (j + k) x) (j + k)
   paste-le e =
-      rw (e, digits-low 256 j x (omega arith), digits-append 256 j k x) (paste-append t at (digits 256 j x) (digits 256 k (x / 256 ^ j)) j k low high fits)
+      rw (e, digits-low 256 j x (omega arith), digits-append 256 j k x)
+      (paste-append t at (digits 256 j x) (digits 256 k (x / 256 ^ j)) j k (length-digits 256 j x) (length-digits 256 k (x / 256 ^ j)) fits)
 
   -- the highest first
   pub paste-be : o ≡ paste t at (be k (x / 256 ^ j)) k → paste o (at + k) (be j (x % 256 ^ j)) j ≡ paste t at (be (j + k) x) (k + j)
   paste-be e =
-      rw (e, digits-low 256 j x (omega arith), digits-append 256 j k x, reverse-append (digits 256 j x) (digits 256 k (x / 256 ^ j)))
-      (paste-append t at (be k (x / 256 ^ j)) (be j x) k j
-      (length-reverse (digits 256 k (x / 256 ^ j)) ∙ high)
-      (length-reverse (digits 256 j x) ∙ low)
-      fits)
+      rw (e, digits-low 256 j x (omega arith), be-append j k x)
+      (paste-append t at (be k (x / 256 ^ j)) (be j x) k j (length-be k (x / 256 ^ j)) (length-be j x) fits)
 
--- ---- a number read from a list that goes on
+-- ---- what is written is read back, and what is read is written as it was
+
+module _ (t : List ℕ) (at k x : ℕ) (fits : at ≤ length t) (small : x < 256 ^ k) where
+  pub unle-paste : unle (take k (drop at (paste t at (digits 256 k x) k))) ≡ x
+  unle-paste =
+      let l : length (digits 256 k x) ≡ k = length-digits 256 k x in
+      rw (part-paste t at (digits 256 k x) k fits (omega arith), take-all k (digits 256 k x) (omega arith)) (number-digits 256 k x (omega arith) small)
+
+  pub unbe-paste : unbe (take k (drop at (paste t at (be k x) k))) ≡ x
+  unbe-paste =
+      let l : length (be k x) ≡ k = length-be k x in
+      ap unbe (part-paste t at (be k x) k fits (omega arith) ∙ take-all k (be k x) (omega arith))
+      ∙ ap (λ (l : List ℕ). number 256 l) (reverse-reverse (digits 256 k x))
+      ∙ number-digits 256 k x (omega arith) small
+
+module _ (s : List ℕ) (at k : ℕ) (fits : at + k ≤ length s) (bytes : (i : ℕ) → getD s i 0 < 256) where
+  part-below : (i : ℕ) → i < length (take k (drop at s)) → getD (take k (drop at s)) i 0 < 256
+  part-below i h =
+      let l : length (take k (drop at s)) ≡ k = length-part s at k fits in
+      rw (getD-take k (drop at s) i 0 (omega arith), getD-drop at s i 0) (bytes (at + i))
+
+  pub digits-unle : digits 256 k (unle (take k (drop at s))) ≡ take k (drop at s)
+  digits-unle =
+      ap (λ (m : ℕ). digits 256 m (unle (take k (drop at s)))) (sym (length-part s at k fits))
+      ∙ digits-number 256 (take k (drop at s)) (all-below 256 (take k (drop at s)) part-below)
+
+-- ---- a part and the rest, and a number and the rest, read from a list that goes on
+
+pub cut-at : {A : Type 0} (k at : ℕ) (l : List A) → at + k ≤ length l → cut k (drop at l) ≡ some (take k (drop at l), drop (at + k) l)
+unfolding cut
+cut-at k at l h = rw (le-leb k (length (drop at l)) (simp length-drop (omega arith)), drop-drop k at l)
+
+pub cut-short : {A : Type 0} (k at : ℕ) (l : List A) → 0 < k → length l < at + k → cut k (drop at l) ≡ none
+unfolding cut
+cut-short k at l p h = rw (lt-leb k (length (drop at l)) (simp length-drop (omega arith)))
 
 pub readLe-at : (k at : ℕ) (bs : List ℕ) → at + k ≤ length bs → readLe k (drop at bs) ≡ some (unle (take k (drop at bs)), drop (at + k) bs)
-unfolding readLe cut
-readLe-at k at bs h = rw (le-leb k (length (drop at bs)) (simp length-drop (omega arith)), drop-drop k at bs)
+unfolding readLe
+readLe-at k at bs h = rw (cut-at k at bs h)
 
 pub readLe-short : (k at : ℕ) (bs : List ℕ) → 0 < k → length bs < at + k → readLe k (drop at bs) ≡ none
-unfolding readLe cut
-readLe-short k at bs p h = rw (lt-leb k (length (drop at bs)) (simp length-drop (omega arith)))
+unfolding readLe
+readLe-short k at bs p h = rw (cut-short k at bs p h)

@@ -37,7 +37,7 @@ shared-slice-read-t17 : tie.Need-shared-slice-read-t17
 shared-slice-read-t17 c = search needs
 
 returns : tie.Need-returns
-returns c = let s = c .before .before .before .before in four-at (s .args .t .now) (s .args .at) (s .pre)
+returns c = let s = c .before .before .before .before in four-at (s .args .t .now) (s .args .at)
 
 pub wide-at-spec : {M : Type 1} → statement M
 wide-at-spec =

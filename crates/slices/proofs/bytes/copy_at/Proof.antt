@@ -4,7 +4,7 @@ use mathlib.Core.Path.{_≡_, refl}
 use Prim.Native.Nat.{_-_, _≤_}
 use native.Mathlib.Omega.{arith}
 use borrow.Author.Needs.{needs}
-use lib.ListN.{length, drop}
+use lib.ListN.{length}
 use lib.Seq.{paste, paste-zero}
 use Rattle.slices.proofs.Turns.{copy-turn}
 use Rattle.slices.proofs.bytes.copy_at.Statement.{statement}

@@ -4,7 +4,7 @@ use mathlib.Core.Path.{_≡_, refl}
 use Prim.Native.Nat.{_-_, _≤_}
 use native.Mathlib.Omega.{arith}
 use borrow.Author.Needs.{needs}
-use lib.ListN.{length, drop, replicate}
+use lib.ListN.{length, replicate}
 use lib.Seq.{paste, paste-zero}
 use Rattle.slices.proofs.Turns.{fill-turn}
 use Rattle.slices.proofs.bytes.fill.Statement.{statement}

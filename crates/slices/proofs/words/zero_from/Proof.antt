@@ -1,6 +1,6 @@
 -- `slices::words::zero_from`. The invariant: the answer so far and the test of what is left give the answer.
 -- Assumes nothing.
-use mathlib.Core.Path.{_≡_, sym}
+use mathlib.Core.Path.{_≡_}
 use mathlib.Core.Bool.{_&&_}
 use Prim.Native.Nat.{_-_}
 use native.Mathlib.Omega.{arith}

@@ -1,0 +1,294 @@
+-- The order of the nursery's refusals and the bound of each, fixed by evaluation.
+-- Of two neighbours in an order: the smallest input that meets both conditions, and the number that is given.
+-- Of each refusal: the smallest input that is given it, beside the nearest one that is not.
+-- A list over 2 ^ 32 - 1 items is too long to be evaluated.
+-- Assumes nothing.
+use mathlib.Core.Path.{_≡_, refl}
+use Prim.Native.Nat.{ℕ, _*_, _^_, _-_}
+use mathlib.Core.Bool.{true, false}
+use mathlib.Core.List.{List, [], _∷_, _++_}
+use lib.ListN.{length, take, replicate}
+use Rattle.base.specs.Logic.{flat, fold, zeros}
+use Rattle.base.specs.Bytes.{le32, le64}
+use Rattle.base.specs.Answers.{answerNumber, answerOf}
+use Rattle.base.specs.declared.Answer.the-variants.{Taken, Refused}
+use Rattle.base.specs.declared.Refusal.the-variants.{Present, OutputFull, Broken}
+use Rattle.cell_nursery.specs.declared.Nursery.{Nursery}
+use Rattle.cell_nursery.specs.Entries.{Entry, State, empty, hashBytes, insert, remove}
+use Rattle.cell_nursery.specs.Items.{itemBytes}
+use Rattle.cell_nursery.specs.Delta.{applyDelta}
+use Rattle.cell_nursery.specs.Drain.{promotionDelay, drainBytes, listingBytes}
+use Rattle.cell_nursery.specs.Layout.{recordOf, entriesTable, waitingTable, cellsTable}
+use Rattle.cell_nursery.specs.Calls.{Changed, DrainedOut, deltaCall, drainCall, lookupCall, listingCall}
+use Rattle.cell_nursery.specs.Open.{evaluation}
+
+-- an entry of a hash, born at a round, with a cell of zeros
+abbrev entry : ℕ → ℕ → ℕ → Entry
+entry h round len = record { hash = h; idx = 7; born = round; cell = zeros len }
+
+-- the entry of a hash, born at round 0, with an empty cell
+abbrev plain : ℕ → Entry
+plain h = entry h 0 0
+
+-- the nursery after some inserts
+abbrev with : List Entry → State
+with es = fold insert es empty
+
+-- a delta's items with the cells' lengths in four bytes
+abbrev wideBytes : Entry → List ℕ
+wideBytes e = hashBytes (e .hash) ++ le64 (e .idx) ++ le32 (e .born) ++ le32 (length (e .cell)) ++ e .cell
+
+-- a delta on a state in tables with room for some entries and some cell bytes
+abbrev deltaOn : State → ℕ → ℕ → List Entry → List ℕ → Changed
+deltaOn s room bytes is rs =
+    deltaCall (recordOf s) (entriesTable (8 * room) s) (waitingTable (5 * room) s) (cellsTable bytes s) false (length is) (length rs)
+    (itemBytes (record { inserts = is; removes = rs }))
+
+-- the same as a number; and of inserts with wide lengths
+abbrev delta : State → ℕ → ℕ → List Entry → List ℕ → ℕ
+delta s room bytes is rs = answerNumber (deltaOn s room bytes is rs .result .answer)
+
+abbrev wide : State → ℕ → ℕ → List Entry → ℕ
+wide s room bytes is =
+    answerNumber (deltaCall (recordOf s) (entriesTable (8 * room) s) (waitingTable (5 * room) s) (cellsTable bytes s) true (length is) 0
+    (flat wideBytes is) .result .answer)
+
+-- the number that the operation itself gives on some inserts: quicker where a cell is long
+abbrev applied : State → ℕ → ℕ → List Entry → ℕ
+applied s room bytes is =
+    answerNumber (answerOf (applyDelta (record { entries = room; cells = bytes }) s (record { inserts = is; removes = [] })))
+
+-- the number that a delta of lent counts and items is answered with, in empty tables of given lengths
+abbrev items : ℕ → ℕ → ℕ → ℕ → ℕ → List ℕ → ℕ
+items le lw lc is rs bs = answerNumber (deltaCall (recordOf empty) (zeros le) (zeros lw) (zeros lc) false is rs bs .result .answer)
+
+-- a draining of a state in tables that just fit n entries and no cell bytes
+abbrev drain : State → ℕ → ℕ → List ℕ → DrainedOut
+drain s n round out = drainCall promotionDelay (recordOf s) (entriesTable (8 * n) s) (waitingTable (5 * n) s) (cellsTable 0 s) round out
+
+-- the nursery with the hash 1, born at round 0, with an empty cell
+abbrev one : State
+one = with (plain 1 ∷ [])
+
+-- that nursery after the hash was handed out
+abbrev drainedOne : State
+drainedOne = record { entries = plain 1 ∷ []; waiting = [] }
+
+-- what draining `one` at round 100 gives: 42 bytes
+abbrev handed : List ℕ
+handed = drainBytes promotionDelay 100 one
+
+-- its listing: 46 bytes
+abbrev listed : List ℕ
+listed = listingBytes (plain 1 ∷ [])
+
+pub record RefusalOrder : Type 0 where
+  -- delta: 14, 12, 13
+  -- an insert of a hash that is there, with a cell of 65,536 bytes
+  fourteen-before-twelve : applied one 1 0 (entry 1 0 65536 ∷ []) ≡ 14
+  -- an insert of a hash that is there, and no room for it
+  twelve-before-thirteen : delta one 1 0 (plain 1 ∷ []) [] ≡ 12
+  -- each test is over the whole delta
+  fourteen-over-all : applied one 1 0 (plain 1 ∷ entry 2 0 65536 ∷ []) ≡ 14
+  twelve-over-all : delta empty 0 0 (plain 1 ∷ plain 1 ∷ []) [] ≡ 12
+  -- 20 comes before all others: a word past the rows, and a cell of 65,536 bytes
+  broken-before-fourteen : answerNumber (deltaCall (recordOf empty) (3 ∷ []) [] [] true 1 0 (wideBytes (entry 1 0 65536)) .result .answer) ≡ 20
+  -- 15 comes last: the same word, and no output
+  broken-before-output : answerNumber (drainCall promotionDelay (recordOf one) (entriesTable 8 one ++ 3 ∷ []) (waitingTable 5 one) [] 100 [] .result .answer) ≡ 20
+  broken-before-listing : answerNumber (listingCall (recordOf one) (entriesTable 8 one ++ 3 ∷ []) [] [] .result .answer) ≡ 20
+
+pub record RefusalBounds : Type 0 where
+  -- 12: a hash that is there, also where the delta removes it, or twice in the delta; and another hash
+  present : delta one 2 0 (plain 1 ∷ []) [] ≡ 12
+  present-and-removed : delta one 2 0 (plain 1 ∷ []) (1 ∷ []) ≡ 12
+  present-twice : delta empty 2 0 (plain 1 ∷ plain 1 ∷ []) [] ≡ 12
+  absent : delta one 2 0 (plain 2 ∷ []) [] ≡ 0
+  -- 13: entries, by the entries' table and by the waiting table
+  full-entries : items 15 10 0 2 0 (itemBytes (record { inserts = plain 1 ∷ plain 2 ∷ []; removes = [] })) ≡ 13
+  full-waiting : items 16 9 0 2 0 (itemBytes (record { inserts = plain 1 ∷ plain 2 ∷ []; removes = [] })) ≡ 13
+  not-full : items 16 10 0 2 0 (itemBytes (record { inserts = plain 1 ∷ plain 2 ∷ []; removes = [] })) ≡ 0
+  -- 13: the smaller table counts after a draining too, as in a box read in every entry waits again
+  full-drained : answerNumber (deltaCall (recordOf drainedOne) (entriesTable 24 drainedOne) (waitingTable 5 drainedOne) [] false 1 0
+      (itemBytes (record { inserts = plain 2 ∷ []; removes = [] })) .result .answer) ≡ 13
+  -- 13: cell bytes
+  full-cells : delta empty 2 2 (entry 1 0 1 ∷ entry 2 0 2 ∷ []) [] ≡ 13
+  not-full-cells : delta empty 2 3 (entry 1 0 1 ∷ entry 2 0 2 ∷ []) [] ≡ 0
+  -- 13: after the inserts and before the removes; room that a delta freed is there for the next one
+  full-before-removes : delta one 1 0 (plain 2 ∷ []) (1 ∷ []) ≡ 13
+  freed : let c = deltaOn one 1 0 [] (1 ∷ []) in
+      answerNumber (deltaCall (c .result .nursery) (c .entries) (c .waiting) (c .cells) false 1 0
+      (itemBytes (record { inserts = plain 2 ∷ []; removes = [] })) .result .answer)
+      ≡ 0
+  -- 14: a cell of 65,535 bytes, and of one more
+  long-cell : applied empty 1 65535 (entry 1 0 65535 ∷ []) ≡ 0
+  too-long-cell : wide empty 1 65536 (entry 1 0 65536 ∷ []) ≡ 14
+  -- 20: an insert of 45 bytes and a remove of 31 are no delta; bytes after the last item are ignored
+  insert-short : items 8 5 0 1 0 (zeros 45) ≡ 20
+  insert-whole : items 8 5 0 1 0 (zeros 46) ≡ 0
+  insert-and-more : items 8 5 0 1 0 (zeros 47) ≡ 0
+  remove-short : items 8 5 0 0 1 (zeros 31) ≡ 20
+  remove-whole : items 8 5 0 0 1 (zeros 32) ≡ 0
+  -- a refused delta leaves the record and the tables; removing an absent hash does nothing
+  unchanged : deltaOn one 2 0 (plain 2 ∷ plain 1 ∷ []) []
+      ≡ record {
+        result = record { answer = Refused Present; nursery = recordOf one };
+        entries = entriesTable 16 one;
+        waiting = waitingTable 10 one;
+        cells = [];
+      }
+  remove-absent : deltaOn one 1 0 [] (2 ∷ [])
+      ≡ record { result = record { answer = Taken; nursery = recordOf one }; entries = entriesTable 8 one; waiting = waitingTable 5 one; cells = [] }
+  -- inserts precede removes: what a delta inserts and removes isn't there
+  in-and-out : deltaOn empty 1 0 (plain 1 ∷ []) (1 ∷ [])
+      ≡ record { result = record { answer = Taken; nursery = recordOf empty }; entries = zeros 8; waiting = zeros 5; cells = [] }
+  -- a hash removed and put back with the same round is handed out once
+  put-back : drainBytes promotionDelay 100 (insert (plain 1) (remove 1 one)) ≡ handed
+  -- draining: round 99 gives nothing and needs no output
+  early : drain one 1 99 [] ≡ record { result = record { answer = Taken; len = 0; nursery = recordOf one }; out = []; waiting = waitingTable 5 one }
+  -- 15: an output one byte too short: nothing is handed out, and the entry waits on
+  drain-short : drain one 1 100 (replicate 41 9)
+      ≡ record { result = record { answer = Refused OutputFull; len = 0; nursery = recordOf one }; out = replicate 41 9; waiting = waitingTable 5 one }
+  -- an output with a byte beyond the answer: the entry stays and waits no more
+  drain-long : drain one 1 100 (replicate 43 9)
+      ≡ record {
+        result = record { answer = Taken; len = 42; nursery = record { entries = 1; waiting = 0; «cell_bytes» = 0 } };
+        out = handed ++ 9 ∷ [];
+        waiting = zeros 5;
+      }
+  -- 15 in listing, and an output with a byte beyond the answer
+  listing-short : listingCall (recordOf one) (entriesTable 8 one) [] (replicate 45 9)
+      ≡ record { result = record { answer = Refused OutputFull; len = 0 }; out = replicate 45 9 }
+  listing-long : listingCall (recordOf one) (entriesTable 8 one) [] (replicate 47 9)
+      ≡ record { result = record { answer = Taken; len = 46 }; out = listed ++ 9 ∷ [] }
+  -- a lookup: a hash that is there, one that is not, and broken tables
+  found : lookupCall (recordOf one) (entriesTable 8 one) 1 ≡ record { answer = Taken; found = true; idx = record { 0 = 7 } }
+  not-found : lookupCall (recordOf one) (entriesTable 8 one) 2 ≡ record { answer = Taken; found = false; idx = record { 0 = 0 } }
+  lookup-broken : lookupCall (recordOf one) (entriesTable 8 one ++ 3 ∷ []) 1
+      ≡ record { answer = Refused Broken; found = false; idx = record { 0 = 0 } }
+
+-- a state record, and whether it and three tables hold a state: a draining at round 0 gives nothing, and 20 where they don't
+abbrev recordAt : ℕ → ℕ → ℕ → Nursery
+recordAt entries waiting bytes = record { entries = entries; waiting = waiting; «cell_bytes» = bytes }
+
+abbrev check : Nursery → List ℕ → List ℕ → List ℕ → ℕ
+check r es ws cs = answerNumber (drainCall promotionDelay r es ws cs 0 [] .result .answer)
+
+-- rows of the entries and of the waiting table, the hash below 2 ^ 64
+abbrev row : ℕ → ℕ → ℕ → ℕ → List ℕ
+row h round place len = 0 ∷ 0 ∷ 0 ∷ h ∷ 7 ∷ round ∷ place ∷ len ∷ []
+
+abbrev wait : ℕ → ℕ → List ℕ
+wait round h = round ∷ 0 ∷ 0 ∷ 0 ∷ h ∷ []
+
+pub record BrokenTables : Type 0 where
+  -- an entry with a cell of one byte, and the nearest tables that hold no state
+  held : check (recordAt 1 1 1) (row 1 0 0 1) (wait 0 1) (9 ∷ []) ≡ 0
+  -- a cell that lies elsewhere
+  place : check (recordAt 1 1 1) (row 1 0 1 1) (wait 0 1) (9 ∷ []) ≡ 20
+  -- cell bytes that aren't the lengths' sum
+  sum-less : check (recordAt 1 1 0) (row 1 0 0 1) (wait 0 1) (9 ∷ []) ≡ 20
+  sum-more : check (recordAt 1 1 2) (row 1 0 0 1) (wait 0 1) (9 ∷ 9 ∷ []) ≡ 20
+  -- a round at 2 ^ 32, of the entry and of its waiting row
+  round-fits : check (recordAt 1 1 1) (row 1 (2 ^ 32 - 1) 0 1) (wait (2 ^ 32 - 1) 1) (9 ∷ []) ≡ 0
+  round-over : check (recordAt 1 1 1) (row 1 (2 ^ 32) 0 1) (wait 0 1) (9 ∷ []) ≡ 20
+  waiting-round-over : check (recordAt 1 1 1) (row 1 0 0 1) (wait (2 ^ 32) 1) (9 ∷ []) ≡ 20
+  -- a cell of 65,535 bytes, and of one more
+  length-fits : check (recordAt 1 1 65535) (row 1 0 0 65535) (wait 0 1) (zeros 65535) ≡ 0
+  length-over : check (recordAt 1 1 65536) (row 1 0 0 65536) (wait 0 1) (zeros 65536) ≡ 20
+  -- hashes that ascend, and that repeat
+  ascending : check (recordAt 2 2 0) (row 1 0 0 0 ++ row 2 0 0 0) (wait 0 1 ++ wait 0 2) [] ≡ 0
+  repeating : check (recordAt 2 2 0) (row 1 0 0 0 ++ row 1 0 0 0) (wait 0 1 ++ wait 0 2) [] ≡ 20
+  -- waiting rows by round, and in any order within one
+  rounds-arrived : check (recordAt 2 2 0) (row 1 0 0 0 ++ row 2 0 0 0) (wait 0 2 ++ wait 0 1) [] ≡ 0
+  rounds-descend : check (recordAt 2 2 0) (row 1 1 0 0 ++ row 2 0 0 0) (wait 1 1 ++ wait 0 2) [] ≡ 20
+  -- a word or a byte past the used ones that isn't 0
+  zero-entries : check (recordAt 0 0 0) (zeros 3) (zeros 3) (zeros 3) ≡ 0
+  stray-entries : check (recordAt 0 0 0) (0 ∷ 0 ∷ 1 ∷ []) (zeros 3) (zeros 3) ≡ 20
+  stray-waiting : check (recordAt 0 0 0) (zeros 3) (0 ∷ 0 ∷ 1 ∷ []) (zeros 3) ≡ 20
+  stray-cells : check (recordAt 0 0 0) (zeros 3) (zeros 3) (0 ∷ 0 ∷ 1 ∷ []) ≡ 20
+  -- more rows or bytes than the tables have, or than the other table of rows has room for
+  short-entries : check (recordAt 1 1 1) (take 7 (row 1 0 0 1)) (wait 0 1) (9 ∷ []) ≡ 20
+  short-waiting : check (recordAt 1 1 1) (row 1 0 0 1) (take 4 (wait 0 1)) (9 ∷ []) ≡ 20
+  short-cells : check (recordAt 1 1 1) (row 1 0 0 1) (wait 0 1) [] ≡ 20
+  room-waiting : check (recordAt 1 0 1) (row 1 0 0 1) (zeros 4) (9 ∷ []) ≡ 20
+  -- a waiting row that names no entry is held; draining passes over it and takes it away
+  unnamed : drainCall promotionDelay (recordAt 0 1 0) (zeros 8) (wait 0 1) [] 100 []
+      ≡ record { result = record { answer = Taken; len = 0; nursery = recordAt 0 0 0 }; out = []; waiting = zeros 5 }
+
+pub refusal-order : RefusalOrder
+unfolding evaluation
+refusal-order =
+    record {
+      fourteen-before-twelve = refl;
+      twelve-before-thirteen = refl;
+      fourteen-over-all = refl;
+      twelve-over-all = refl;
+      broken-before-fourteen = refl;
+      broken-before-output = refl;
+      broken-before-listing = refl;
+    }
+
+pub refusal-bounds : RefusalBounds
+unfolding evaluation
+refusal-bounds =
+    record {
+      present = refl;
+      present-and-removed = refl;
+      present-twice = refl;
+      absent = refl;
+      full-entries = refl;
+      full-waiting = refl;
+      not-full = refl;
+      full-drained = refl;
+      full-cells = refl;
+      not-full-cells = refl;
+      full-before-removes = refl;
+      freed = refl;
+      long-cell = refl;
+      too-long-cell = refl;
+      insert-short = refl;
+      insert-whole = refl;
+      insert-and-more = refl;
+      remove-short = refl;
+      remove-whole = refl;
+      unchanged = refl;
+      remove-absent = refl;
+      in-and-out = refl;
+      put-back = refl;
+      early = refl;
+      drain-short = refl;
+      drain-long = refl;
+      listing-short = refl;
+      listing-long = refl;
+      found = refl;
+      not-found = refl;
+      lookup-broken = refl;
+    }
+
+pub broken-tables : BrokenTables
+unfolding evaluation
+broken-tables =
+    record {
+      held = refl;
+      place = refl;
+      sum-less = refl;
+      sum-more = refl;
+      round-fits = refl;
+      round-over = refl;
+      waiting-round-over = refl;
+      length-fits = refl;
+      length-over = refl;
+      ascending = refl;
+      repeating = refl;
+      rounds-arrived = refl;
+      rounds-descend = refl;
+      zero-entries = refl;
+      stray-entries = refl;
+      stray-waiting = refl;
+      stray-cells = refl;
+      short-entries = refl;
+      short-waiting = refl;
+      short-cells = refl;
+      room-waiting = refl;
+      unnamed = refl;
+    }

@@ -1,0 +1,191 @@
+-- The order of a record's refusals, the bound of each, and the order of a record's fields, fixed by evaluation.
+-- Of two neighbours in an order: the smallest input that meets both conditions, and the number that is given.
+-- (Under 40 bytes and 17 never meet: the stated length is there only from 40 bytes on.)
+-- In the place of the hash stands one that is quick to evaluate: the first 32 bytes of what it covers.
+-- Assumes nothing.
+use mathlib.Core.Path.{_≡_, refl}
+use Prim.Native.Nat.{ℕ, _-_, _^_}
+use mathlib.Core.Bool.{true, false}
+use mathlib.Core.List.{List, [], _∷_, _++_}
+use lib.ListN.{length, take, drop, replicate}
+use Rattle.base.specs.Logic.{zeros}
+use Rattle.base.specs.Bytes.{le32, le64}
+use Rattle.base.specs.Answers.{answerNumber}
+use Rattle.base.specs.declared.Answer.the-variants.{Taken, Refused}
+use Rattle.base.specs.declared.Refusal.the-variants.{OutputFull, Misfit}
+use Rattle.cell_nursery.specs.Entries.{Entry}
+use Rattle.format.specs.declared.RecordStats.{RecordStats}
+use Rattle.format.specs.Record.{recordBytes}
+use Rattle.format.specs.Calls.{EncodedOut, encodeCall, decodeCall}
+use Rattle.format.specs.Open.{evaluation}
+
+-- the stand-in for the hash
+abbrev firstBytes : List ℕ → List ℕ
+firstBytes b = take 32 (b ++ zeros 32)
+
+-- a payload: id, the two list lengths, the items; and the record of a payload
+abbrev payload : ℕ → ℕ → ℕ → List ℕ → List ℕ
+payload id is rs items = le64 id ++ le32 is ++ le32 rs ++ items
+
+abbrev recordOf : List ℕ → List ℕ
+recordOf p = let b = le64 (length p) ++ p in firstBytes b ++ b
+
+-- the number that decoding is answered with; and that of a record of a payload
+abbrev decoded : List ℕ → ℕ
+decoded bs = answerNumber (decodeCall firstBytes bs .answer)
+
+abbrev decodedOf : List ℕ → ℕ
+decodedOf p = decoded (recordOf p)
+
+-- the record with neither insert nor remove, of the id 5
+abbrev none : List ℕ
+none = recordOf (payload 5 0 0 [])
+
+-- encoding the delta of lent counts and items, with the id 5
+abbrev encodedTo : List ℕ → ℕ → ℕ → List ℕ → EncodedOut
+encodedTo out is rs items = encodeCall firstBytes 5 false is rs items out
+
+-- the items of one insert with a cell of zeros, its length in four bytes
+abbrev wideInsert : ℕ → List ℕ
+wideInsert len = zeros 44 ++ le32 len ++ zeros len
+
+abbrev encodedWide : ℕ → List ℕ → ℕ
+encodedWide is items = answerNumber (encodeCall firstBytes 5 true is 0 items [] .result .answer)
+
+-- five figures
+abbrev stats : ℕ → ℕ → ℕ → ℕ → ℕ → RecordStats
+stats a b c d e = record { «payload_bytes» = a; «metadata_bytes» = b; «cell_bytes» = c; «insert_ops» = d; «remove_ops» = e }
+
+pub record RefusalOrder : Type 0 where
+  -- decoding: under 40 bytes, 17, 16, 18, 19
+  -- a length that is too far, of a record that has 40 bytes
+  seventeen-before-sixteen : decoded (zeros 32 ++ le64 (2 ^ 64 - 8)) ≡ 17
+  -- a record that is short, with another hash than its own
+  sixteen-before-eighteen : decoded (zeros 32 ++ le64 1) ≡ 16
+  -- a payload of one byte, with another hash than its own
+  eighteen-before-nineteen : decoded (zeros 32 ++ le64 1 ++ 0 ∷ []) ≡ 18
+  -- encoding: 14, 15
+  -- a cell of 65,536 bytes, and no output
+  fourteen-before-fifteen : encodedWide 1 (wideInsert 65536) ≡ 14
+  -- items that run past their bytes are no delta, also where a cell is too long
+  broken-before-fourteen : encodedWide 2 (wideInsert 65536) ≡ 20
+
+pub record RefusalBounds : Type 0 where
+  -- 16: 39 bytes, and 40 bytes of a length of 1
+  under-40 : decoded (zeros 39) ≡ 16
+  -- 16: 55 of 56 bytes, all of them, and a byte behind the record
+  cut : decoded (take 55 none) ≡ 16
+  whole : decoded none ≡ 0
+  followed : decoded (none ++ 9 ∷ []) ≡ 0
+  -- 17: 2 ^ 64 - 8, and one less
+  far : decoded (zeros 32 ++ le64 (2 ^ 64 - 8)) ≡ 17
+  not-far : decoded (zeros 32 ++ le64 (2 ^ 64 - 9)) ≡ 16
+  -- 18: another first byte or last byte of the hash, another length, another id
+  first-byte : decoded (9 ∷ drop 1 none) ≡ 18
+  last-byte : decoded (take 31 none ++ 9 ∷ drop 32 none) ≡ 18
+  other-length : decoded (take 32 none ++ 17 ∷ drop 33 none ++ 0 ∷ []) ≡ 18
+  other-id : decoded (take 40 none ++ 6 ∷ drop 41 none) ≡ 18
+  -- 19: a stated length of 15, of 16, and of 17 with a byte that is ignored
+  stated-15 : decodedOf (zeros 15) ≡ 19
+  stated-16 : decodedOf (zeros 16) ≡ 0
+  stated-17 : decodedOf (zeros 17) ≡ 0
+  -- 19: an insert one byte short, whole, and whole but for its cell; a remove one byte short, and whole
+  insert-short : decodedOf (payload 0 1 0 (zeros 45)) ≡ 19
+  insert-whole : decodedOf (payload 0 1 0 (zeros 46)) ≡ 0
+  cell-short : decodedOf (payload 0 1 0 (zeros 44 ++ 1 ∷ 0 ∷ [])) ≡ 19
+  cell-whole : decodedOf (payload 0 1 0 (zeros 44 ++ 1 ∷ 0 ∷ 0 ∷ [])) ≡ 0
+  remove-short : decodedOf (payload 0 0 1 (zeros 31)) ≡ 19
+  remove-whole : decodedOf (payload 0 0 1 (zeros 32)) ≡ 0
+  -- items that run past the stated length, where the bytes go on
+  run-past : decoded (recordOf (payload 0 0 1 []) ++ zeros 32) ≡ 19
+  -- 14: not for a cell of 65,535 bytes
+  long-cell : encodedWide 1 (wideInsert 65535) ≡ 15
+  -- 15: an output one byte too short, which isn't touched, and one with a byte beyond the answer
+  output-short : encodedTo (replicate 55 9) 0 0 []
+      ≡ record { result = record { answer = Refused OutputFull; len = 0; stats = stats 0 0 0 0 0 }; out = replicate 55 9 }
+  output-long : encodedTo (replicate 57 9) 0 0 []
+      ≡ record { result = record { answer = Taken; len = 56; stats = stats 16 16 0 0 0 }; out = none ++ 9 ∷ [] }
+  -- 20: items that run past their bytes; bytes after the last item are ignored
+  items-short : answerNumber (encodedTo [] 0 1 (zeros 31) .result .answer) ≡ 20
+  items-long : answerNumber (encodedTo (zeros 88) 0 1 (zeros 33) .result .answer) ≡ 0
+  -- beside a refusal stand zeros
+  refused : decodeCall firstBytes (recordOf (zeros 15)) ≡ record { answer = Refused Misfit; id = 0; hash = zeros 32; «items_at» = 0; «items_len» = 0; stats = stats 0 0 0 0 0 }
+
+-- an insert of the hash 258 and a cell of 3 bytes, at index 772, born at round 1286; and the hash 1800 removed
+abbrev sample : Entry
+sample = record { hash = 258; idx = 772; born = 1286; cell = 7 ∷ 8 ∷ 9 ∷ [] }
+
+abbrev sampleItems : List ℕ
+sampleItems =
+    zeros 30 ++ 1 ∷ 2 ∷ 4 ∷ 3 ∷ zeros 6 ++ 6 ∷ 5 ∷ 0 ∷ 0 ∷ 3 ∷ 0 ∷ 7 ∷ 8 ∷ 9 ∷ zeros 30 ++ 7 ∷ 8 ∷ []
+
+abbrev covered : List ℕ
+covered = 97 ∷ zeros 7 ++ 11 ∷ 10 ∷ zeros 6 ++ 1 ∷ zeros 3 ++ 1 ∷ zeros 3 ++ sampleItems
+
+pub record Fields : Type 0 where
+  -- the hash of length and payload, the length, the id 2571, the two list lengths, the inserts, the removes
+  bytes : recordBytes firstBytes 2571 (record { inserts = sample ∷ []; removes = 1800 ∷ [] }) ≡ take 32 covered ++ covered
+  -- the same by the calls: the record and its figures, and what decoding it gives
+  encoded : encodeCall firstBytes 2571 false 1 1 sampleItems (zeros 137)
+      ≡ record { result = record { answer = Taken; len = 137; stats = stats 97 94 3 1 1 }; out = take 32 covered ++ covered }
+  decoding : decodeCall firstBytes (take 32 covered ++ covered)
+      ≡ record { answer = Taken; id = 2571; hash = take 32 covered; «items_at» = 56; «items_len» = 81; stats = stats 97 94 3 1 1 }
+  items : take 81 (drop 56 (take 32 covered ++ covered)) ≡ sampleItems
+  -- the lengths of document 01: no item, and one insert of 3 bytes
+  empty-length : length (recordBytes firstBytes 0 (record { inserts = []; removes = [] })) ≡ 56
+  insert-length : length (recordBytes firstBytes 0 (record { inserts = sample ∷ []; removes = [] })) ≡ 105
+
+pub refusal-order : RefusalOrder
+unfolding evaluation
+refusal-order =
+    record {
+      seventeen-before-sixteen = refl;
+      sixteen-before-eighteen = refl;
+      eighteen-before-nineteen = refl;
+      fourteen-before-fifteen = refl;
+      broken-before-fourteen = refl;
+    }
+
+pub refusal-bounds : RefusalBounds
+unfolding evaluation
+refusal-bounds =
+    record {
+      under-40 = refl;
+      cut = refl;
+      whole = refl;
+      followed = refl;
+      far = refl;
+      not-far = refl;
+      first-byte = refl;
+      last-byte = refl;
+      other-length = refl;
+      other-id = refl;
+      stated-15 = refl;
+      stated-16 = refl;
+      stated-17 = refl;
+      insert-short = refl;
+      insert-whole = refl;
+      cell-short = refl;
+      cell-whole = refl;
+      remove-short = refl;
+      remove-whole = refl;
+      run-past = refl;
+      long-cell = refl;
+      output-short = refl;
+      output-long = refl;
+      items-short = refl;
+      items-long = refl;
+      refused = refl;
+    }
+
+pub fields : Fields
+unfolding evaluation
+fields =
+    record {
+      bytes = refl;
+      encoded = refl;
+      decoding = refl;
+      items = refl;
+      empty-length = refl;
+      insert-length = refl;
+    }

@@ -1,0 +1,96 @@
+-- A box's calls one after the other: document 01's sequence of two allocations and two batches, and what the plain box makes of the
+-- calls, fixed by evaluation. The order of each call's refusals stands in the crate that has the call.
+-- Assumes nothing.
+use mathlib.Core.Path.{_≡_, refl}
+use Prim.Native.Nat.{ℕ}
+use mathlib.Core.Bool.{true, false}
+use mathlib.Core.Option.{Option, none, some}
+use mathlib.Core.List.{List, [], _∷_}
+use lib.ListN.{length, take}
+use Rattle.base.specs.Logic.{zeros}
+use Rattle.base.specs.Answers.{answerNumber}
+use Rattle.cell_nursery.specs.Entries.{Entry}
+use Rattle.cell_nursery.specs.Items.{Delta, itemBytes}
+use Rattle.node_box.specs.Box.{Box, Call, allocate, batch, delta, drain, made, step, run, answers}
+use Rattle.node_box.specs.Plain.{Plain, Cell, freshPlain, plainStep, runPlain}
+use Rattle.node_box.specs.Open.{evaluation}
+
+-- a fresh box at next index 0, with room for two counts, two entries and two cell bytes
+abbrev box : Box
+box = made 0 (zeros 4) (zeros 16) (zeros 10) (zeros 2)
+
+-- two allocations, batch (1, 0 → 3)(0, 0 → 1), batch (1, 2 → 5)
+abbrev calls : List Call
+calls = allocate ∷ allocate ∷ batch (1 ∷ 0 ∷ 3 ∷ 0 ∷ 0 ∷ 1 ∷ []) ∷ batch (1 ∷ 2 ∷ 5 ∷ []) ∷ []
+
+-- answer, next index and live total after a call on the box that the first n calls leave
+abbrev line : ℕ → Call → List ℕ
+line n x =
+    let s = step (run box (take n calls)) x in
+    answerNumber (s .0) ∷ s .1 .counters .«next_idx» .0 ∷ s .1 .counters .«live_cells» ∷ []
+
+-- the plain box after the same calls
+abbrev plain : Plain
+plain = runPlain (freshPlain 0) calls (answers box calls)
+
+-- a delta that inserts the hash 1 and removes some hashes, and the plain box after it
+abbrev entry : Entry
+entry = record { hash = 1; idx = 7; born = 5; cell = 8 ∷ 9 ∷ [] }
+
+abbrev change : List ℕ → Call
+change rs = delta 3 false 1 (length rs) (itemBytes (record { inserts = entry ∷ []; removes = rs }))
+
+abbrev changed : List ℕ → Plain
+changed rs = plainStep (freshPlain 0) (change rs) true
+
+pub record BoxLines : Type 0 where
+  -- answer, next and live of the four calls
+  first-allocation : line 0 allocate ≡ 0 ∷ 1 ∷ 0 ∷ []
+  second-allocation : line 1 allocate ≡ 0 ∷ 2 ∷ 0 ∷ []
+  first-batch : line 2 (batch (1 ∷ 0 ∷ 3 ∷ 0 ∷ 0 ∷ 1 ∷ [])) ≡ 0 ∷ 2 ∷ 2 ∷ []
+  second-batch : line 3 (batch (1 ∷ 2 ∷ 5 ∷ [])) ≡ 5 ∷ 2 ∷ 2 ∷ []
+  -- the table after them: count 3 at index 1, and nothing for the count 1 at index 0
+  table : run box calls .counts ≡ 1 ∷ 3 ∷ 0 ∷ 0 ∷ []
+  -- the plain box is fed which calls were accepted; next, live and the counts follow
+  accepted : answers box calls ≡ true ∷ true ∷ true ∷ false ∷ []
+  plain-next : plain .next ≡ 2
+  plain-live : plain .live ≡ 2
+  plain-zero : plain .count 0 ≡ 1
+  plain-one : plain .count 1 ≡ 3
+  -- a death leaves the count 1 and one alive less
+  plain-death : plainStep plain (batch (1 ∷ 3 ∷ 0 ∷ [])) true .count 1 ≡ 1
+  plain-death-live : plainStep plain (batch (1 ∷ 3 ∷ 0 ∷ [])) true .live ≡ 1
+  -- a transition with old = new is dropped
+  plain-dropped : plainStep plain (batch (1 ∷ 9 ∷ 9 ∷ [])) true .count 1 ≡ 3
+  -- a refused call is no step
+  plain-refused : plainStep plain (batch (1 ∷ 3 ∷ 0 ∷ [])) false .count 1 ≡ 3
+  -- an insert sets its hash's entry, and then a remove leaves its hash none
+  plain-insert : changed [] .entry 1 ≡ some (record { idx = 7; born = 5; cell = 8 ∷ 9 ∷ [] })
+  plain-other : changed [] .entry 2 ≡ none
+  plain-remove : changed (1 ∷ []) .entry 1 ≡ none
+  -- draining is no step
+  plain-drain : plainStep (changed []) (drain 105 44) true .entry 1 ≡ some (record { idx = 7; born = 5; cell = 8 ∷ 9 ∷ [] })
+
+pub box-lines : BoxLines
+unfolding evaluation
+box-lines =
+    record {
+      first-allocation = refl;
+      second-allocation = refl;
+      first-batch = refl;
+      second-batch = refl;
+      table = refl;
+      accepted = refl;
+      plain-next = refl;
+      plain-live = refl;
+      plain-zero = refl;
+      plain-one = refl;
+      plain-death = refl;
+      plain-death-live = refl;
+      plain-dropped = refl;
+      plain-refused = refl;
+      plain-insert = refl;
+      plain-other = refl;
+      plain-remove = refl;
+      plain-drain = refl;
+    }
