@@ -1,11 +1,11 @@
 -- The transitions of lent words as a loop meets them, one after the other.
 -- Assumes nothing.
 use mathlib.Core.Path.{_≡_, refl, sym, ap, _∙_}
-use mathlib.Core.Bool.{Bool, true, false, _&&_, _||_, false≢true}
+use mathlib.Core.Bool.{Bool, true, false, not, _&&_, _||_, false≢true}
 use mathlib.Core.List.{List, [], _∷_, map}
 use Prim.Native.Nat.{ℕ, suc, _+_, _*_, _/_, _≤_, _<_}
 use native.Mathlib.Omega.{arith}
-use lib.Dec.{eqb}
+use lib.Dec.{ltb, eqb}
 use borrow.Author.Tests.{eq-eqb, ne-eqb}
 use lib.ListN.{length, drop, getD}
 use lib.Seq.{getD-drop, drop-length}
@@ -14,7 +14,8 @@ use Rattle.base.specs.ListLaws.{length-keep}
 use Rattle.rows.specs.TableLaws.{length-rowsOf, drop-row, rows-fit}
 use Rattle.counters.specs.declared.CounterTransition.{CounterTransition}
 use Rattle.counters.specs.Layout.{transitionRow}
-use Rattle.counters.specs.Batch.{changes, kept, named}
+use Rattle.counters.specs.Counts.{Entry, storedAt}
+use Rattle.counters.specs.Batch.{changes, kept, named, falseOld}
 use Rattle.counters.specs.Steps.{transition, transitionAt, transitions}
 
 -- the words of transition i lie in the batch
@@ -102,3 +103,13 @@ module _ (i old new : ℕ) (b : Bool) where
 
   pub changed : (old ≡ new → ⊥) → b ≡ (changes (transition i old new) && b)
   changed h = rw (ne-eqb old new h)
+
+-- ---- the old count against the stored one
+module _ (es : List Entry) (i old new : ℕ) where
+  pub false-old-none : storedAt i es ≡ 0 → ltb 1 old ≡ falseOld es (transition i old new)
+  unfolding falseOld
+  false-old-none e = rw (eq-eqb (storedAt i es) 0 e)
+
+  pub false-old-stored : (n : ℕ) → n ≡ storedAt i es → (n ≡ 0 → ⊥) → not (eqb old n) ≡ falseOld es (transition i old new)
+  unfolding falseOld
+  false-old-stored n e h = rw (← e, ne-eqb n 0 h)

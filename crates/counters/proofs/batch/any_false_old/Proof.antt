@@ -1,95 +1,90 @@
-use mathlib.Core.Path.{_≡_, refl, sym, ap, _∙_}
-use mathlib.Core.List.{List, [], _∷_, _++_}
-use mathlib.Core.Bool.{Bool, true, false}
-use Prim.Native.Nat.{ℕ, zero, suc, _+_, _-_, _*_, _≤_, _<_}
+use mathlib.Core.Path.{_≡_, sym, _∙_}
+use Prim.Native.Nat.{suc, _-_, _/_, _≤_}
 use native.Mathlib.Omega.{arith}
 use native.Mathlib.Numerals.{add-one}
 use borrow.Author.Needs.{needs}
-use borrow.Author.Tests.{le-ltb, lt-ltb, le-leb, lt-leb, eq-eqb, ne-eqb}
-use lib.ListN.{length, take, drop, getD, set, length-set, length-drop}
+use lib.ListN.{length, drop}
+use Rattle.base.specs.Logic.{any}
+use Rattle.rows.specs.Table.{rowsOf}
+use Rattle.counters.specs.Layout.{countRow}
+use Rattle.counters.specs.Batch.{kept, falseOld}
+use Rattle.counters.specs.Steps.{transitionAt, transitions}
+use Rattle.counters.specs.StepLaws.{in-batch, from-transition, no-transition, any-passed, any-decided, any-none}
 use Rattle.counters.proofs.batch.any_false_old.Statement.{statement}
 use Rattle.counters.proofs.batch.any_false_old.Tie as tie
-use Rattle.counters.proofs.batch.any_false_old.Reads as reads
-use Rattle.counters.proofs.batch.any_false_old.Lts as lts
-use Rattle.counters.proofs.batch.is_false_old.Reads as is-false-old-reads
 
 abbrev Inv-loop : tie.InvT-loop
-Inv-loop t n b m i₀ i = ?
+Inv-loop t n b m i₀ i = (i ≤ length b / 3) × (any (falseOld (rowsOf countRow n t)) (kept (transitions b)) ≡ any (falseOld (rowsOf countRow n t)) (kept (drop i (transitions b))))
 
 abbrev μ-loop : tie.MeasureT-loop
-μ-loop t n b m i₀ i = ?
+μ-loop t n b m i₀ i = length b / 3 - i
 
--- src/batch.rt:114:5
 loop-holds : tie.Need-loop-holds Inv-loop μ-loop
 loop-holds c = search needs
 
--- src/batch.rt:115:33
 mul-is-false-old : tie.Need-mul-is-false-old Inv-loop μ-loop
-mul-is-false-old c = search needs
+mul-is-false-old c = omega (arith, in-batch (c .before .before .before .before .args .b .now) (c .before .loop .i) (omega arith))
 
--- src/batch.rt:115:31
 mul-is-false-old-2 : tie.Need-mul-is-false-old-2 Inv-loop μ-loop
-mul-is-false-old-2 c = search needs
+mul-is-false-old-2 c = omega (arith, in-batch (c .before .before .before .before .args .b .now) (c .before .loop .i) (omega arith))
 
--- src/batch.rt:115:31
 shared-slice-read-is-false-old : tie.Need-shared-slice-read-is-false-old Inv-loop μ-loop
-shared-slice-read-is-false-old c = search needs
+shared-slice-read-is-false-old c = omega (arith, in-batch (c .before .before .before .before .before .args .b .now) (c .before .before .loop .i) (omega arith))
 
--- src/batch.rt:115:43
 mul-is-false-old-3 : tie.Need-mul-is-false-old-3 Inv-loop μ-loop
-mul-is-false-old-3 c = search needs
+mul-is-false-old-3 c = omega (arith, in-batch (c .before .before .before .before .before .args .b .now) (c .before .before .loop .i) (omega arith))
 
--- src/batch.rt:115:43
 add-is-false-old : tie.Need-add-is-false-old Inv-loop μ-loop
-add-is-false-old c = search needs
+add-is-false-old c = omega (arith, in-batch (c .before .before .before .before .before .args .b .now) (c .before .before .loop .i) (omega arith))
 
--- src/batch.rt:115:41
 mul-is-false-old-4 : tie.Need-mul-is-false-old-4 Inv-loop μ-loop
-mul-is-false-old-4 c = search needs
+mul-is-false-old-4 c = omega (arith, in-batch (c .before .before .before .before .before .args .b .now) (c .before .before .loop .i) (omega arith))
 
--- src/batch.rt:115:41
 shared-slice-read-is-false-old-2 : tie.Need-shared-slice-read-is-false-old-2 Inv-loop μ-loop
-shared-slice-read-is-false-old-2 c = search needs
+shared-slice-read-is-false-old-2 c = omega (arith, in-batch (c .before .before .before .before .before .before .args .b .now) (c .before .before .before .loop .i) (omega arith))
 
--- src/batch.rt:115:57
 mul-is-false-old-5 : tie.Need-mul-is-false-old-5 Inv-loop μ-loop
-mul-is-false-old-5 c = search needs
+mul-is-false-old-5 c = omega (arith, in-batch (c .before .before .before .before .before .before .args .b .now) (c .before .before .before .loop .i) (omega arith))
 
--- src/batch.rt:115:57
 add-is-false-old-2 : tie.Need-add-is-false-old-2 Inv-loop μ-loop
-add-is-false-old-2 c = search needs
+add-is-false-old-2 c = omega (arith, in-batch (c .before .before .before .before .before .before .args .b .now) (c .before .before .before .loop .i) (omega arith))
 
--- src/batch.rt:115:55
 mul-is-false-old-6 : tie.Need-mul-is-false-old-6 Inv-loop μ-loop
-mul-is-false-old-6 c = search needs
+mul-is-false-old-6 c = omega (arith, in-batch (c .before .before .before .before .before .before .args .b .now) (c .before .before .before .loop .i) (omega arith))
 
--- src/batch.rt:115:55
 shared-slice-read-is-false-old-3 : tie.Need-shared-slice-read-is-false-old-3 Inv-loop μ-loop
-shared-slice-read-is-false-old-3 c = search needs
+shared-slice-read-is-false-old-3 c = omega (arith, in-batch (c .before .before .before .before .before .before .before .args .b .now) (c .before .before .before .before .loop .i) (omega arith))
 
--- src/batch.rt:115:12
 is-false-old-requires : tie.Need-is-false-old-requires Inv-loop μ-loop
 is-false-old-requires c κs = search needs
 
--- src/batch.rt:116:13
 returns : tie.Need-returns Inv-loop μ-loop
-returns c = search needs
+returns c =
+    let l = c .before .before .before .before .before .before .loop in
+    let a = c .before .before .before .before .before .before .before .before .before .args in
+    let x = transitionAt (a .b .now) (l .i) in
+    let r = drop (suc (l .i)) (transitions (a .b .now)) in
+    sym (l .inv .1 ∙ rw (from-transition (a .b .now) (l .i) (omega arith)) (any-decided x r (falseOld (rowsOf countRow (a .n) (a .t .now))) (sym (c .before .is-false-old .ensures) ∙ c .if1 .taken)))
 
--- src/batch.rt:118:9
 add-i : tie.Need-add-i Inv-loop μ-loop
 add-i c = search needs
 
--- src/batch.rt:114:5
 loop-less : tie.Need-loop-less Inv-loop μ-loop
 loop-less c = search needs
 
--- src/batch.rt:114:5
 loop-again : tie.Need-loop-again Inv-loop μ-loop
-loop-again c = search needs
+loop-again c =
+    let l = c .before .before .before .before .before .before .loop in
+    let a = c .before .before .before .before .before .before .before .before .before .args in
+    let x = transitionAt (a .b .now) (l .i) in
+    let r = drop (suc (l .i)) (transitions (a .b .now)) in
+    (omega arith, rw add-one (l .inv .1 ∙ rw (from-transition (a .b .now) (l .i) (omega arith)) (any-passed x r (falseOld (rowsOf countRow (a .n) (a .t .now))) (sym (c .before .is-false-old .ensures) ∙ c .if1 .left))))
 
--- src/batch.rt:108:1
 returns-2 : tie.Need-returns-2 Inv-loop μ-loop
-returns-2 c = search needs
+returns-2 c =
+    let l = c .before .loop in
+    let a = c .before .before .before .before .args in
+    sym (l .inv .1 ∙ rw (no-transition (a .b .now) (l .i) (omega arith) (omega arith)) (any-none (falseOld (rowsOf countRow (a .n) (a .t .now)))))
 
 pub any-false-old-spec : {M : Type 1} → statement M
 any-false-old-spec =

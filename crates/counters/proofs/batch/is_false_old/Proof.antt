@@ -1,34 +1,30 @@
-use mathlib.Core.Path.{_≡_, refl, sym, ap, _∙_}
-use mathlib.Core.List.{List, [], _∷_, _++_}
-use mathlib.Core.Bool.{Bool, true, false}
-use Prim.Native.Nat.{ℕ, zero, suc, _+_, _-_, _*_, _≤_, _<_}
-use native.Mathlib.Omega.{arith}
-use native.Mathlib.Numerals.{add-one}
-use borrow.Author.Needs.{needs}
-use borrow.Author.Tests.{le-ltb, lt-ltb, le-leb, lt-leb, eq-eqb, ne-eqb}
-use lib.ListN.{length, take, drop, getD, set, length-set, length-drop}
-use borrow.Author.Needs.{needs}
+use mathlib.Core.Path.{sym, _∙_}
+use Rattle.rows.specs.Table.{rowsOf}
+use Rattle.counters.specs.Layout.{countRow}
+use Rattle.counters.specs.Batch.{falseOld}
+use Rattle.counters.specs.Steps.{transition}
+use Rattle.counters.specs.StepLaws.{unchanged, changed}
+use Rattle.counters.specs.StepLaws.{false-old-none, false-old-stored}
 use Rattle.counters.proofs.batch.is_false_old.Statement.{statement}
 use Rattle.counters.proofs.batch.is_false_old.Tie as tie
-use Rattle.counters.proofs.batch.is_false_old.Reads as reads
-use Rattle.counters.proofs.batch.is_false_old.Lts as lts
-use Rattle.counters.proofs.table.stored_at.Reads as stored-at-reads
 
--- src/batch.rt:98:9
 returns : tie.Need-returns
-returns c = search needs
+returns c = let a = c .before .before .args in unchanged (a .idx) (a .old) (a .new) (falseOld (rowsOf countRow (a .n) (a .t .now)) (transition (a .idx) (a .old) (a .new))) (c .if1 .taken)
 
--- src/batch.rt:100:9
 stored-at-requires : tie.Need-stored-at-requires
-stored-at-requires c κs = search needs
+stored-at-requires c κs = c .before .before .pre
 
--- src/batch.rt:102:9
 returns-2 : tie.Need-returns-2
-returns-2 c = search needs
+returns-2 c =
+    let a = c .before .before .before .before .args in
+    false-old-none (rowsOf countRow (a .n) (a .t .now)) (a .idx) (a .old) (a .new) (sym (c .before .stored-at .ensures) ∙ c .if2 .taken)
+    ∙ changed (a .idx) (a .old) (a .new) (falseOld (rowsOf countRow (a .n) (a .t .now)) (transition (a .idx) (a .old) (a .new))) (c .before .before .if1 .left)
 
--- src/batch.rt:93:1
 returns-3 : tie.Need-returns-3
-returns-3 c = search needs
+returns-3 c =
+    let a = c .before .before .before .before .args in
+    false-old-stored (rowsOf countRow (a .n) (a .t .now)) (a .idx) (a .old) (a .new) (c .before .stored-at .result) (c .before .stored-at .ensures) (c .if2 .left)
+    ∙ changed (a .idx) (a .old) (a .new) (falseOld (rowsOf countRow (a .n) (a .t .now)) (transition (a .idx) (a .old) (a .new))) (c .before .before .if1 .left)
 
 pub is-false-old-spec : {M : Type 1} → statement M
 is-false-old-spec = tie.close (tie.spec returns stored-at-requires returns-2 returns-3)

@@ -1,24 +1,14 @@
-use mathlib.Core.Path.{_≡_, refl, sym, ap, _∙_}
-use mathlib.Core.List.{List, [], _∷_, _++_}
-use mathlib.Core.Bool.{Bool, true, false}
-use Prim.Native.Nat.{ℕ, zero, suc, _+_, _-_, _*_, _≤_, _<_}
-use native.Mathlib.Omega.{arith}
-use native.Mathlib.Numerals.{add-one}
-use borrow.Author.Needs.{needs}
-use borrow.Author.Tests.{le-ltb, lt-ltb, le-leb, lt-leb, eq-eqb, ne-eqb}
-use lib.ListN.{length, take, drop, getD, set, length-set, length-drop}
+use Rattle.counters.specs.Batch.{unallocated}
+use Rattle.counters.specs.Steps.{transition}
+use Rattle.counters.specs.StepLaws.{unchanged, changed}
 use Rattle.counters.proofs.batch.is_unallocated.Statement.{statement}
 use Rattle.counters.proofs.batch.is_unallocated.Tie as tie
-use Rattle.counters.proofs.batch.is_unallocated.Reads as reads
-use Rattle.counters.proofs.batch.is_unallocated.Lts as lts
 
--- src/batch.rt:20:9
 returns : tie.Need-returns
-returns c = search needs
+returns c = let a = c .before .args in unchanged (a .idx) (a .old) (a .new) (unallocated (a .next) (transition (a .idx) (a .old) (a .new))) (c .if1 .taken)
 
--- src/batch.rt:16:1
 returns-2 : tie.Need-returns-2
-returns-2 c = search needs
+returns-2 c = let a = c .before .args in changed (a .idx) (a .old) (a .new) (unallocated (a .next) (transition (a .idx) (a .old) (a .new))) (c .if1 .left)
 
 pub is-unallocated-spec : {M : Type 1} → statement M
 is-unallocated-spec = tie.close (tie.spec returns returns-2)
