@@ -1,1 +1,49 @@
-// Maintenance.
+// Maintenance: which sets a count is in, the removal counts, and when to shrink.
+ghost use mathlib.Core.Path.{_≡_};
+ghost use Rattle.counters.specs.Counts.{inSet};
+ghost use Rattle.counters.specs.Maintenance as maintenance;
+ghost use Rattle.counters.specs.Maintenance.{shouldShrink};
+
+const MAX64: u64 = 0xffff_ffff_ffff_ffff;
+
+// Whether set k has an index with the count n. A count from 2 to 256 lies as count - 1 over eight sets.
+pub fn in_set(k: u32, n: u64) -> bool
+    ensures { λ r. ⌜ r ≡ inSet k n ⌝ }
+{
+    if n < 2 {
+        return false;
+    }
+    if 256 < n {
+        return false;
+    }
+    if 8 <= k {
+        return false;
+    }
+    ((n - 1) >> k) % 2 == 1
+}
+
+// A removal count grown by n; it stops at the largest number.
+pub fn grown(removed: u64, n: u64) -> u64
+    ensures { λ r. ⌜ r ≡ maintenance.grown removed n ⌝ }
+{
+    if MAX64 - removed < n {
+        return MAX64;
+    }
+    removed + n
+}
+
+// Whether to shrink what holds alive items. 3 × removed could be too large a number, so a third of alive is compared.
+pub fn should_shrink(alive: u64, removed_since_shrink: u64, min_removed: u64) -> bool
+    ensures { λ r. ⌜ r ≡ shouldShrink alive «removed_since_shrink» «min_removed» ⌝ }
+{
+    if removed_since_shrink == 0 {
+        return false;
+    }
+    if alive == 0 {
+        return true;
+    }
+    if removed_since_shrink < min_removed {
+        return false;
+    }
+    (alive - 1) / 3 < removed_since_shrink
+}

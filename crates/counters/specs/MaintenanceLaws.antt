@@ -1,0 +1,71 @@
+-- The sets that a count is in and the rules of shrinking, as the code decides them.
+-- Assumes nothing.
+use mathlib.Core.Path.{_≡_}
+use mathlib.Core.Bool.{true, false}
+use Prim.Native.Nat.{ℕ, _-_, _*_, _/_, _%_, _^_, _≤_, _<_}
+use native.Mathlib.Nat.{zero-div, div-eq-of-lt, lt-of-lt-of-le}
+use native.Mathlib.Omega.{arith}
+use native.Mathlib.Decide.{decLe}
+use lib.Dec.{eqb, ltb}
+use lib.Pow.{pow-mono}
+use borrow.Author.Tests.{le-leb, lt-leb, lt-ltb, le-ltb, eq-eqb, ne-eqb}
+use Rattle.counters.specs.Counts.{smallCode, inSet}
+use Rattle.counters.specs.Maintenance.{shouldShrink}
+
+-- ---- the sets that a count is in
+module _ (k n : ℕ) where
+  pub low-count : n < 2 → false ≡ inSet k n
+  unfolding inSet smallCode
+  low-count h = rw (lt-leb 2 n h, zero-div (2 ^ k))
+
+  pub large-count : 256 < n → false ≡ inSet k n
+  unfolding inSet smallCode
+  large-count h = rw (le-leb 2 n (omega arith), lt-leb n 256 h, zero-div (2 ^ k))
+
+  small-count : 2 ≤ n → n ≤ 256 → smallCode n ≡ n - 1
+  unfolding smallCode
+  small-count h g = rw (le-leb 2 n h, le-leb n 256 g)
+
+  pub bit-set : 2 ≤ n → n ≤ 256 → eqb ((n - 1) / 2 ^ k % 2) 1 ≡ inSet k n
+  unfolding inSet
+  bit-set h g = rw (small-count h g)
+
+  -- a code has eight bits
+  code-byte : smallCode n < 2 ^ 8
+  unfolding smallCode
+  code-byte =
+      elim (decLe 2 n) [
+        | yes h ↦ elim (decLe n 256) [
+          | yes g ↦ rw (le-leb 2 n h, le-leb n 256 g) (omega arith)
+          | no g ↦ rw (le-leb 2 n h, lt-leb n 256 (omega arith)) (omega arith)
+        ]
+        | no h ↦ rw (lt-leb 2 n (omega arith)) (omega arith)
+      ]
+
+  pub no-set : 8 ≤ k → false ≡ inSet k n
+  unfolding inSet
+  no-set h = rw (div-eq-of-lt {n = smallCode n} (lt-of-lt-of-le code-byte (pow-mono h)))
+
+-- ---- whether to shrink
+module _ (alive removed minimum : ℕ) where
+  pub none-removed : removed ≡ 0 → false ≡ shouldShrink alive removed minimum
+  unfolding shouldShrink
+  none-removed e = rw (eq-eqb removed 0 e)
+
+  pub none-alive : (removed ≡ 0 → ⊥) → alive ≡ 0 → true ≡ shouldShrink alive removed minimum
+  unfolding shouldShrink
+  none-alive r e = rw (ne-eqb removed 0 r, eq-eqb alive 0 e)
+
+  pub few-removed : (removed ≡ 0 → ⊥) → (alive ≡ 0 → ⊥) → removed < minimum → false ≡ shouldShrink alive removed minimum
+  unfolding shouldShrink
+  few-removed r a h = rw (ne-eqb removed 0 r, ne-eqb alive 0 a, lt-leb minimum removed h)
+
+  -- a third of alive, rounded up, is one more than a third of alive - 1
+  pub third-removed : (removed ≡ 0 → ⊥) → (alive ≡ 0 → ⊥) → minimum ≤ removed → ltb ((alive - 1) / 3) removed ≡ shouldShrink alive removed minimum
+  unfolding shouldShrink
+  third-removed r a h =
+      rw (ne-eqb removed 0 r, ne-eqb alive 0 a, le-leb minimum removed h)
+      (elim (decLe alive (3 * removed)) [
+        | yes g ↦ rw (le-leb alive (3 * removed) g) (lt-ltb ((alive - 1) / 3) removed (omega arith))
+        | no g ↦ rw (lt-leb alive (3 * removed) (omega arith)) (le-ltb ((alive - 1) / 3) removed (omega arith))
+      ])
