@@ -10,7 +10,8 @@ use lib.Dec.{eqb, ltb}
 use lib.Pow.{pow-mono}
 use borrow.Author.Tests.{le-leb, lt-leb, lt-ltb, le-ltb, eq-eqb, ne-eqb}
 use Rattle.counters.specs.Counts.{smallCode, inSet}
-use Rattle.counters.specs.Maintenance.{shouldShrink}
+use Rattle.counters.specs.Maintenance.{Settings, standard, adjustShrinkThreshold, shouldShrink}
+use Rattle.counters.specs.declared.CounterMaintenance.{CounterMaintenance}
 
 -- ---- the sets that a count is in
 module _ (k n : ℕ) where
@@ -45,6 +46,29 @@ module _ (k n : ℕ) where
   pub no-set : 8 ≤ k → false ≡ inSet k n
   unfolding inSet
   no-set h = rw (div-eq-of-lt {n = smallCode n} (lt-of-lt-of-le code-byte (pow-mono h)))
+
+-- ---- the alive threshold
+-- maintenance after an alive shrink that saved some bytes: the threshold moves
+unfoldable pub adjusted : Settings → ℕ → CounterMaintenance → CounterMaintenance
+adjusted g saved m =
+    record {
+      «alive_removed_since_shrink» = m .«alive_removed_since_shrink»;
+      «small_removed_since_shrink» = m .«small_removed_since_shrink»;
+      «min_alive_removed_before_shrink» = adjustShrinkThreshold g saved (m .«min_alive_removed_before_shrink»);
+    }
+
+module _ (saved threshold : ℕ) where
+  pub good-save : 1048576 ≤ saved → 131072 ≡ adjustShrinkThreshold standard saved threshold
+  unfolding standard adjustShrinkThreshold
+  good-save h = rw (le-leb 1048576 saved h)
+
+  pub far-threshold : saved < 1048576 → 2097152 / 2 < threshold → 2097152 ≡ adjustShrinkThreshold standard saved threshold
+  unfolding standard adjustShrinkThreshold
+  far-threshold h g = rw (lt-leb 1048576 saved h) (omega arith)
+
+  pub doubled : saved < 1048576 → threshold ≤ 2097152 / 2 → threshold * 2 ≡ adjustShrinkThreshold standard saved threshold
+  unfolding standard adjustShrinkThreshold
+  doubled h g = rw (lt-leb 1048576 saved h) (omega arith)
 
 -- ---- whether to shrink
 module _ (alive removed minimum : ℕ) where

@@ -1,10 +1,19 @@
 // Maintenance: which sets a count is in, the removal counts, and when to shrink.
+use crate::CounterMaintenance;
 ghost use mathlib.Core.Path.{_≡_};
 ghost use Rattle.counters.specs.Counts.{inSet};
 ghost use Rattle.counters.specs.Maintenance as maintenance;
-ghost use Rattle.counters.specs.Maintenance.{shouldShrink};
+ghost use Rattle.counters.specs.Maintenance.{standard, shouldShrink, adjustShrinkThreshold};
+ghost use Rattle.counters.specs.MaintenanceLaws.{adjusted};
 
 const MAX64: u64 = 0xffff_ffff_ffff_ffff;
+
+// The alive threshold: where it starts, how far it goes, and from how many bytes saved it starts again.
+const BASE: u64 = 131_072;
+
+const MOST: u64 = 2_097_152;
+
+const GOOD_SAVE: u64 = 1_048_576;
 
 // Whether set k has an index with the count n. A count from 2 to 256 lies as count - 1 over eight sets.
 pub fn in_set(k: u32, n: u64) -> bool
@@ -46,4 +55,30 @@ pub fn should_shrink(alive: u64, removed_since_shrink: u64, min_removed: u64) ->
         return false;
     }
     (alive - 1) / 3 < removed_since_shrink
+}
+
+// The alive threshold after a shrink that saved some bytes.
+fn threshold_after(threshold: u64, saved: u64) -> u64
+    ensures { λ r. ⌜ r ≡ adjustShrinkThreshold standard saved threshold ⌝ }
+{
+    if GOOD_SAVE <= saved {
+        return BASE;
+    }
+    if MOST / 2 < threshold {
+        return MOST;
+    }
+    threshold * 2
+}
+
+impl CounterMaintenance {
+    // After an alive shrink that saved some bytes: only the threshold moves.
+    pub fn adjust_shrink_threshold(mut self, bytes_saved: u64) -> CounterMaintenance
+        ensures { λ r. ⌜ r ≡ adjusted standard «bytes_saved» self ⌝ }
+    {
+        self.min_alive_removed_before_shrink = threshold_after(
+            self.min_alive_removed_before_shrink,
+            bytes_saved,
+        );
+        self
+    }
 }
