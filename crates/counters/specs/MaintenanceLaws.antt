@@ -1,15 +1,25 @@
 -- The sets that a count is in and the rules of shrinking, as the code decides them.
 -- Assumes nothing.
-use mathlib.Core.Path.{_≡_}
+use mathlib.Core.Path.{_≡_, _∙_}
 use mathlib.Core.Bool.{true, false}
-use Prim.Native.Nat.{ℕ, _-_, _*_, _/_, _%_, _^_, _≤_, _<_}
+use Prim.Native.Nat.{ℕ, suc, _+_, _-_, _*_, _/_, _%_, _^_, _≤_, _<_}
 use native.Mathlib.Nat.{zero-div, div-eq-of-lt, lt-of-lt-of-le}
 use native.Mathlib.Omega.{arith}
+use native.Mathlib.Numerals.{add-one}
 use native.Mathlib.Decide.{decLe}
+use mathlib.Core.List.{List, _∷_}
+use lib.ListN.{length, drop, getD, length-map}
+use lib.Seq.{drop-length}
+use Rattle.base.specs.Logic.{pick, keep}
+use Rattle.base.specs.ListLaws.{length-keep}
+use Rattle.rows.specs.Table.{rowsOf}
+use Rattle.rows.specs.TableLaws.{length-rowsOf}
+use Rattle.counters.specs.Layout.{countRow}
+use Rattle.counters.specs.RowLaws.{rowAt, from-row}
 use lib.Dec.{eqb, ltb}
 use lib.Pow.{pow-mono}
 use borrow.Author.Tests.{le-leb, lt-leb, lt-ltb, le-ltb, eq-eqb, ne-eqb}
-use Rattle.counters.specs.Counts.{smallCode, inSet}
+use Rattle.counters.specs.Counts.{Entry, smallCode, inSet, members}
 use Rattle.counters.specs.Maintenance.{Settings, standard, adjustShrinkThreshold, shouldShrink}
 use Rattle.counters.specs.declared.CounterMaintenance.{CounterMaintenance}
 
@@ -46,6 +56,31 @@ module _ (k n : ℕ) where
   pub no-set : 8 ≤ k → false ≡ inSet k n
   unfolding inSet
   no-set h = rw (div-eq-of-lt {n = smallCode n} (lt-of-lt-of-le code-byte (pow-mono h)))
+
+-- ---- the members of a set, counted row after row
+length-members : (k : ℕ) (e : Entry) (es : List Entry) → length (members k (e ∷ es)) ≡ pick (inSet k (e .count)) 1 0 + length (members k es)
+unfolding members
+length-members k e es = simp length-map (length-keep (λ x. inSet k (x .count)) e es)
+
+-- the members from row i on
+abbrev pub membersFrom : ℕ → ℕ → List ℕ → ℕ → ℕ
+membersFrom k n t i = length (members k (drop i (rowsOf countRow n t)))
+
+module _ (k n : ℕ) (t : List ℕ) (i : ℕ) where
+  row-members : i < n → membersFrom k n t i ≡ pick (inSet k (getD t (i * 2 + 1) 0)) 1 0 + membersFrom k n t (suc i)
+  row-members h = rw (from-row n t i h) (length-members k (rowAt t i) (drop (suc i) (rowsOf countRow n t)))
+
+  pub member-next : i < n → inSet k (getD t (i * 2 + 1) 0) ≡ true → membersFrom k n t i ≡ 1 + membersFrom k n t (i + 1)
+  member-next h e = row-members h ∙ rw (e, add-one i)
+
+  pub other-next : i < n → inSet k (getD t (i * 2 + 1) 0) ≡ false → membersFrom k n t i ≡ 0 + membersFrom k n t (i + 1)
+  other-next h e = row-members h ∙ rw (e, add-one i)
+
+  pub members-end : n ≤ i → i ≤ n → membersFrom k n t i ≡ 0
+  unfolding members keep
+  members-end h g =
+      let e : i ≡ length (rowsOf countRow n t) = omega (arith, length-rowsOf countRow n t) in
+      rw (e, drop-length (rowsOf countRow n t))
 
 -- ---- the alive threshold
 -- maintenance after an alive shrink that saved some bytes: the threshold moves

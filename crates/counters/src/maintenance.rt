@@ -1,7 +1,12 @@
 // Maintenance: which sets a count is in, the removal counts, and when to shrink.
 use crate::CounterMaintenance;
 ghost use mathlib.Core.Path.{_≡_};
+ghost use Prim.Native.Nat.{_*_, _≤_};
+ghost use lib.ListN.{length};
+ghost use Rattle.rows.specs.Table.{rowsOf};
+ghost use Rattle.counters.specs.Counts as counts;
 ghost use Rattle.counters.specs.Counts.{inSet};
+ghost use Rattle.counters.specs.Layout.{countRow};
 ghost use Rattle.counters.specs.Maintenance as maintenance;
 ghost use Rattle.counters.specs.Maintenance.{standard, shouldShrink, adjustShrinkThreshold};
 ghost use Rattle.counters.specs.MaintenanceLaws.{adjusted};
@@ -81,4 +86,20 @@ impl CounterMaintenance {
         );
         self
     }
+}
+
+// How many of the first n counts are in set k: a pass over the table.
+pub fn members(t: &[u64], n: usize, k: u32) -> u64
+    requires { ⌜ n * 2 ≤ length (now t) ⌝ }
+    ensures { λ r. ⌜ r ≡ length (counts.members k (rowsOf countRow n (now (t .entry)))) ⌝ }
+{
+    let mut found = 0;
+    let mut i = 0;
+    while i < n {
+        if in_set(k, t[i * 2 + 1]) {
+            found += 1;
+        }
+        i += 1;
+    }
+    found
 }
