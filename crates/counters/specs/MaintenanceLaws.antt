@@ -1,15 +1,15 @@
 -- The sets that a count is in and the rules of shrinking, as the code decides them.
 -- Assumes nothing.
-use mathlib.Core.Path.{_≡_, _∙_}
-use mathlib.Core.Bool.{true, false}
-use Prim.Native.Nat.{ℕ, suc, _+_, _-_, _*_, _/_, _%_, _^_, _≤_, _<_}
-use native.Mathlib.Nat.{zero-div, div-eq-of-lt, lt-of-lt-of-le}
+use mathlib.Core.Path.{_≡_, refl, sym, ap, _∙_}
+use mathlib.Core.Bool.{Bool, true, false}
+use Prim.Native.Nat.{ℕ, zero, suc, _+_, _-_, _*_, _/_, _%_, _^_, _≤_, _<_}
+use native.Mathlib.Nat.{zero-add, add-zero, suc-add, add-suc, zero-div, div-eq-of-lt, lt-of-lt-of-le}
 use native.Mathlib.Omega.{arith}
 use native.Mathlib.Numerals.{add-one}
 use native.Mathlib.Decide.{decLe}
-use mathlib.Core.List.{List, _∷_}
-use lib.ListN.{length, drop, getD, length-map}
-use lib.Seq.{drop-length}
+use mathlib.Core.List.{List, [], _∷_}
+use lib.ListN.{length, take, drop, getD, set, length-map}
+use lib.Seq.{drop-length, take-suc, take-suc-set, take-all}
 use Rattle.base.specs.Logic.{pick, keep}
 use Rattle.base.specs.ListLaws.{length-keep}
 use Rattle.rows.specs.Table.{rowsOf}
@@ -20,7 +20,7 @@ use lib.Dec.{eqb, ltb}
 use lib.Pow.{pow-mono}
 use borrow.Author.Tests.{le-leb, lt-leb, lt-ltb, le-ltb, eq-eqb, ne-eqb}
 use Rattle.counters.specs.Counts.{Entry, smallCode, inSet, members}
-use Rattle.counters.specs.Maintenance.{Settings, standard, adjustShrinkThreshold, shouldShrink}
+use Rattle.counters.specs.Maintenance.{Settings, standard, adjustShrinkThreshold, setMinimum, shouldShrink, setsShrink, resetWhere}
 use Rattle.counters.specs.declared.CounterMaintenance.{CounterMaintenance}
 
 -- ---- the sets that a count is in
@@ -128,3 +128,40 @@ module _ (alive removed minimum : ℕ) where
         | yes g ↦ rw (le-leb alive (3 * removed) g) (lt-ltb ((alive - 1) / 3) removed (omega arith))
         | no g ↦ rw (lt-leb alive (3 * removed) (omega arith)) (le-ltb ((alive - 1) / 3) removed (omega arith))
       ])
+
+-- ---- an array filled from the front
+module _ {A : Type 0} (d : A) (filled wanted : List A) (k : ℕ) (same : take k filled ≡ take k wanted) where
+  pub filled-next : (v : A) → k < length filled → k < length wanted → v ≡ getD wanted k d → take (k + 1) (set filled k v) ≡ take (k + 1) wanted
+  filled-next v h g e = rw (add-one k, take-suc-set filled k v h, take-suc wanted k d g, e, same)
+
+  pub filled-end : length filled ≤ k → length wanted ≤ k → filled ≡ wanted
+  filled-end h g = sym (take-all k filled h) ∙ same ∙ take-all k wanted g
+
+-- ---- the rule of the sets, at any of them
+module _ (es : List Entry) where
+  pub length-sets : (k : ℕ) (rs : List ℕ) → length (setsShrink es k rs) ≡ length rs
+  unfolding setsShrink
+  length-sets k [] = refl
+  length-sets k (r ∷ rs) = ap suc (length-sets (suc k) rs)
+
+  set-from : (k : ℕ) (rs : List ℕ) (i : ℕ) → i < length rs → getD (setsShrink es k rs) i false ≡ shouldShrink (length (members (k + i) es)) (getD rs i 0) setMinimum
+  unfolding setsShrink
+  set-from k [] i h = absurd (omega arith)
+  set-from k (r ∷ rs) zero h = rw (add-zero k)
+  set-from k (r ∷ rs) (suc i) h = set-from (suc k) rs i (omega arith) ∙ rw (suc-add k i, add-suc k i)
+
+  pub set-at : (rs : List ℕ) (i : ℕ) → i < length rs → getD (setsShrink es 0 rs) i false ≡ shouldShrink (length (members i es)) (getD rs i 0) setMinimum
+  set-at rs i h = set-from 0 rs i h ∙ rw (zero-add i)
+
+pub length-reset : (ys : List Bool) (rs : List ℕ) → length (resetWhere ys rs) ≡ length rs
+unfolding resetWhere
+length-reset [] rs = refl
+length-reset (y ∷ ys) [] = refl
+length-reset (y ∷ ys) (r ∷ rs) = ap suc (length-reset ys rs)
+
+pub reset-at : (ys : List Bool) (rs : List ℕ) (i : ℕ) → i < length rs → getD (resetWhere ys rs) i 0 ≡ pick (getD ys i false) 0 (getD rs i 0)
+unfolding resetWhere
+reset-at [] rs i h = refl
+reset-at (y ∷ ys) [] i h = absurd (omega arith)
+reset-at (y ∷ ys) (r ∷ rs) zero h = refl
+reset-at (y ∷ ys) (r ∷ rs) (suc i) h = reset-at ys rs i (omega arith)
