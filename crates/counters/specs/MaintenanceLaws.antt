@@ -1,0 +1,167 @@
+-- The sets that a count is in and the rules of shrinking, as the code decides them.
+-- Assumes nothing.
+use mathlib.Core.Path.{_≡_, refl, sym, ap, _∙_}
+use mathlib.Core.Bool.{Bool, true, false}
+use Prim.Native.Nat.{ℕ, zero, suc, _+_, _-_, _*_, _/_, _%_, _^_, _≤_, _<_}
+use native.Mathlib.Nat.{zero-add, add-zero, suc-add, add-suc, zero-div, div-eq-of-lt, lt-of-lt-of-le}
+use native.Mathlib.Omega.{arith}
+use native.Mathlib.Numerals.{add-one}
+use native.Mathlib.Decide.{decLe}
+use mathlib.Core.List.{List, [], _∷_}
+use lib.ListN.{length, take, drop, getD, set, length-map}
+use lib.Seq.{drop-length, take-suc, take-suc-set, take-all}
+use Rattle.base.specs.Logic.{pick, keep}
+use Rattle.base.specs.ListLaws.{length-keep}
+use Rattle.rows.specs.Table.{rowsOf}
+use Rattle.rows.specs.TableLaws.{length-rowsOf}
+use Rattle.counters.specs.Layout.{countRow}
+use Rattle.counters.specs.RowLaws.{rowAt, from-row}
+use lib.Dec.{eqb, ltb}
+use lib.Pow.{pow-mono}
+use borrow.Author.Tests.{le-leb, lt-leb, lt-ltb, le-ltb, eq-eqb, ne-eqb}
+use Rattle.counters.specs.Counts.{Entry, smallCode, inSet, members}
+use Rattle.counters.specs.Maintenance.{Settings, standard, adjustShrinkThreshold, setMinimum, shouldShrink, setsShrink, resetWhere}
+use Rattle.counters.specs.declared.CounterMaintenance.{CounterMaintenance}
+
+-- ---- the sets that a count is in
+module _ (k n : ℕ) where
+  pub low-count : n < 2 → false ≡ inSet k n
+  unfolding inSet smallCode
+  low-count h = rw (lt-leb 2 n h, zero-div (2 ^ k))
+
+  pub large-count : 256 < n → false ≡ inSet k n
+  unfolding inSet smallCode
+  large-count h = rw (le-leb 2 n (omega arith), lt-leb n 256 h, zero-div (2 ^ k))
+
+  small-count : 2 ≤ n → n ≤ 256 → smallCode n ≡ n - 1
+  unfolding smallCode
+  small-count h g = rw (le-leb 2 n h, le-leb n 256 g)
+
+  pub bit-set : 2 ≤ n → n ≤ 256 → eqb ((n - 1) / 2 ^ k % 2) 1 ≡ inSet k n
+  unfolding inSet
+  bit-set h g = rw (small-count h g)
+
+  -- a code has eight bits
+  code-byte : smallCode n < 2 ^ 8
+  unfolding smallCode
+  code-byte =
+      elim (decLe 2 n) [
+        | yes h ↦ elim (decLe n 256) [
+          | yes g ↦ rw (le-leb 2 n h, le-leb n 256 g) (omega arith)
+          | no g ↦ rw (le-leb 2 n h, lt-leb n 256 (omega arith)) (omega arith)
+        ]
+        | no h ↦ rw (lt-leb 2 n (omega arith)) (omega arith)
+      ]
+
+  pub no-set : 8 ≤ k → false ≡ inSet k n
+  unfolding inSet
+  no-set h = rw (div-eq-of-lt {n = smallCode n} (lt-of-lt-of-le code-byte (pow-mono h)))
+
+-- ---- the members of a set, counted row after row
+length-members : (k : ℕ) (e : Entry) (es : List Entry) → length (members k (e ∷ es)) ≡ pick (inSet k (e .count)) 1 0 + length (members k es)
+unfolding members
+length-members k e es = simp length-map (length-keep (λ x. inSet k (x .count)) e es)
+
+-- the members from row i on
+abbrev pub membersFrom : ℕ → ℕ → List ℕ → ℕ → ℕ
+membersFrom k n t i = length (members k (drop i (rowsOf countRow n t)))
+
+module _ (k n : ℕ) (t : List ℕ) (i : ℕ) where
+  row-members : i < n → membersFrom k n t i ≡ pick (inSet k (getD t (i * 2 + 1) 0)) 1 0 + membersFrom k n t (suc i)
+  row-members h = rw (from-row n t i h) (length-members k (rowAt t i) (drop (suc i) (rowsOf countRow n t)))
+
+  pub member-next : i < n → inSet k (getD t (i * 2 + 1) 0) ≡ true → membersFrom k n t i ≡ 1 + membersFrom k n t (i + 1)
+  member-next h e = row-members h ∙ rw (e, add-one i)
+
+  pub other-next : i < n → inSet k (getD t (i * 2 + 1) 0) ≡ false → membersFrom k n t i ≡ 0 + membersFrom k n t (i + 1)
+  other-next h e = row-members h ∙ rw (e, add-one i)
+
+  pub members-end : n ≤ i → i ≤ n → membersFrom k n t i ≡ 0
+  unfolding members keep
+  members-end h g =
+      let e : i ≡ length (rowsOf countRow n t) = omega (arith, length-rowsOf countRow n t) in
+      rw (e, drop-length (rowsOf countRow n t))
+
+-- ---- the alive threshold
+-- maintenance after an alive shrink that saved some bytes: the threshold moves
+unfoldable pub adjusted : Settings → ℕ → CounterMaintenance → CounterMaintenance
+adjusted g saved m =
+    record {
+      «alive_removed_since_shrink» = m .«alive_removed_since_shrink»;
+      «small_removed_since_shrink» = m .«small_removed_since_shrink»;
+      «min_alive_removed_before_shrink» = adjustShrinkThreshold g saved (m .«min_alive_removed_before_shrink»);
+    }
+
+module _ (saved threshold : ℕ) where
+  pub good-save : 1048576 ≤ saved → 131072 ≡ adjustShrinkThreshold standard saved threshold
+  unfolding standard adjustShrinkThreshold
+  good-save h = rw (le-leb 1048576 saved h)
+
+  pub far-threshold : saved < 1048576 → 2097152 / 2 < threshold → 2097152 ≡ adjustShrinkThreshold standard saved threshold
+  unfolding standard adjustShrinkThreshold
+  far-threshold h g = rw (lt-leb 1048576 saved h) (omega arith)
+
+  pub doubled : saved < 1048576 → threshold ≤ 2097152 / 2 → threshold * 2 ≡ adjustShrinkThreshold standard saved threshold
+  unfolding standard adjustShrinkThreshold
+  doubled h g = rw (lt-leb 1048576 saved h) (omega arith)
+
+-- ---- whether to shrink
+module _ (alive removed minimum : ℕ) where
+  pub none-removed : removed ≡ 0 → false ≡ shouldShrink alive removed minimum
+  unfolding shouldShrink
+  none-removed e = rw (eq-eqb removed 0 e)
+
+  pub none-alive : (removed ≡ 0 → ⊥) → alive ≡ 0 → true ≡ shouldShrink alive removed minimum
+  unfolding shouldShrink
+  none-alive r e = rw (ne-eqb removed 0 r, eq-eqb alive 0 e)
+
+  pub few-removed : (removed ≡ 0 → ⊥) → (alive ≡ 0 → ⊥) → removed < minimum → false ≡ shouldShrink alive removed minimum
+  unfolding shouldShrink
+  few-removed r a h = rw (ne-eqb removed 0 r, ne-eqb alive 0 a, lt-leb minimum removed h)
+
+  -- a third of alive, rounded up, is one more than a third of alive - 1
+  pub third-removed : (removed ≡ 0 → ⊥) → (alive ≡ 0 → ⊥) → minimum ≤ removed → ltb ((alive - 1) / 3) removed ≡ shouldShrink alive removed minimum
+  unfolding shouldShrink
+  third-removed r a h =
+      rw (ne-eqb removed 0 r, ne-eqb alive 0 a, le-leb minimum removed h)
+      (elim (decLe alive (3 * removed)) [
+        | yes g ↦ rw (le-leb alive (3 * removed) g) (lt-ltb ((alive - 1) / 3) removed (omega arith))
+        | no g ↦ rw (lt-leb alive (3 * removed) (omega arith)) (le-ltb ((alive - 1) / 3) removed (omega arith))
+      ])
+
+-- ---- an array filled from the front
+module _ {A : Type 0} (d : A) (filled wanted : List A) (k : ℕ) (same : take k filled ≡ take k wanted) where
+  pub filled-next : (v : A) → k < length filled → k < length wanted → v ≡ getD wanted k d → take (k + 1) (set filled k v) ≡ take (k + 1) wanted
+  filled-next v h g e = rw (add-one k, take-suc-set filled k v h, take-suc wanted k d g, e, same)
+
+  pub filled-end : length filled ≤ k → length wanted ≤ k → filled ≡ wanted
+  filled-end h g = sym (take-all k filled h) ∙ same ∙ take-all k wanted g
+
+-- ---- the rule of the sets, at any of them
+module _ (es : List Entry) where
+  pub length-sets : (k : ℕ) (rs : List ℕ) → length (setsShrink es k rs) ≡ length rs
+  unfolding setsShrink
+  length-sets k [] = refl
+  length-sets k (r ∷ rs) = ap suc (length-sets (suc k) rs)
+
+  set-from : (k : ℕ) (rs : List ℕ) (i : ℕ) → i < length rs → getD (setsShrink es k rs) i false ≡ shouldShrink (length (members (k + i) es)) (getD rs i 0) setMinimum
+  unfolding setsShrink
+  set-from k [] i h = absurd (omega arith)
+  set-from k (r ∷ rs) zero h = rw (add-zero k)
+  set-from k (r ∷ rs) (suc i) h = set-from (suc k) rs i (omega arith) ∙ rw (suc-add k i, add-suc k i)
+
+  pub set-at : (rs : List ℕ) (i : ℕ) → i < length rs → getD (setsShrink es 0 rs) i false ≡ shouldShrink (length (members i es)) (getD rs i 0) setMinimum
+  set-at rs i h = set-from 0 rs i h ∙ rw (zero-add i)
+
+pub length-reset : (ys : List Bool) (rs : List ℕ) → length (resetWhere ys rs) ≡ length rs
+unfolding resetWhere
+length-reset [] rs = refl
+length-reset (y ∷ ys) [] = refl
+length-reset (y ∷ ys) (r ∷ rs) = ap suc (length-reset ys rs)
+
+pub reset-at : (ys : List Bool) (rs : List ℕ) (i : ℕ) → i < length rs → getD (resetWhere ys rs) i 0 ≡ pick (getD ys i false) 0 (getD rs i 0)
+unfolding resetWhere
+reset-at [] rs i h = refl
+reset-at (y ∷ ys) [] i h = absurd (omega arith)
+reset-at (y ∷ ys) (r ∷ rs) zero h = refl
+reset-at (y ∷ ys) (r ∷ rs) (suc i) h = reset-at ys rs i (omega arith)
