@@ -1,16 +1,18 @@
 // The steps of a batch, each over the whole batch: lent words, three a transition (index, old, new).
+use crate::Kind;
+use crate::maintenance;
 use crate::table;
 ghost use mathlib.Core.Path.{_≡_};
-ghost use mathlib.Core.Bool.{_&&_};
+ghost use mathlib.Core.Bool.{_&&_, _||_};
 ghost use Prim.Native.Nat.{_+_, _/_, _≤_, _<_};
-ghost use lib.Dec.{eqb};
+ghost use lib.Dec.{ltb, eqb};
 ghost use lib.ListN.{length, drop};
-ghost use Rattle.base.specs.Logic.{any, elem, repeated};
+ghost use Rattle.base.specs.Logic.{pick, any, elem, keep, repeated, max64};
 ghost use Rattle.rows.specs.Table.{rowsOf};
 ghost use Rattle.counters.specs.Layout.{countRow};
 ghost use Rattle.counters.specs.Batch.{changes, kept, named, unallocated, falseOld};
 ghost use Rattle.counters.specs.Held.{InOrder};
-ghost use Rattle.counters.specs.Steps.{transition, transitionAt, transitions};
+ghost use Rattle.counters.specs.Steps.{transition, transitionAt, transitions, ofKind};
 
 // Whether a transition changes a count at an index that isn't allocated.
 fn is_unallocated(next: u64, idx: u64, old: u64, new: u64) -> bool
@@ -118,4 +120,69 @@ pub fn any_false_old(t: &[u64], n: usize, b: &[u64]) -> bool
         i += 1;
     }
     false
+}
+
+// Whether a transition is of a kind.
+fn is_kind(kind: Kind, idx: u64, old: u64, new: u64) -> bool
+    ensures { λ r. ⌜ r ≡ ofKind kind (transition idx old new) ⌝ }
+{
+    match kind {
+        Kind::Birth => old == 0,
+        Kind::Death => new == 0,
+        Kind::Rise => {
+            if 1 < old {
+                return false;
+            }
+            2 <= new
+        }
+        Kind::Fall => {
+            if old < 2 {
+                return false;
+            }
+            new <= 1
+        }
+        Kind::Clear(k) => {
+            if !maintenance::in_set(k, old) {
+                return false;
+            }
+            !maintenance::in_set(k, new)
+        }
+    }
+}
+
+// 1 for a kept transition of a kind, else 0.
+fn counts(kind: Kind, idx: u64, old: u64, new: u64) -> u64
+    ensures { λ r. ⌜ r ≡ pick (changes (transition idx old new) && ofKind kind (transition idx old new)) 1 0 ⌝ }
+{
+    if old == new {
+        return 0;
+    }
+    if is_kind(kind, idx, old, new) {
+        return 1;
+    }
+    0
+}
+
+// How many kept transitions are of a kind.
+pub fn tally(b: &[u64], kind: Kind) -> u64
+    ensures { λ r. ⌜ r ≡ length (keep (ofKind kind) (kept (transitions (now (b .entry))))) ⌝ }
+{
+    let m = b.len() / 3;
+    let mut n: u64 = 0;
+    let mut i = 0;
+    while i < m {
+        n += counts(kind, b[i * 3], b[i * 3 + 1], b[i * 3 + 2]);
+        i += 1;
+    }
+    n
+}
+
+// 4: births carry the live total past 2^64 - 1, or deaths outnumber what is then there.
+pub fn off_total(live: u64, births: u64, deaths: u64) -> bool
+    ensures { λ r. ⌜ r ≡ (ltb max64 (live + births) || ltb (live + births) deaths) ⌝ }
+{
+    if 0xFFFF_FFFF_FFFF_FFFF - live < births {
+        return true;
+    }
+    live + births < deaths
 }
