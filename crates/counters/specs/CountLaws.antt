@@ -119,7 +119,7 @@ module _ (i n : ℕ) where
         go false c q = refl
 
   -- ---- the row that is put
-  row-within : within index i (suc i) (rowOf i n) ≡ true
+  pub row-within : within index i (suc i) (rowOf i n) ≡ true
   unfolding rowOf all
   row-within = go (leb 2 n)
     where
@@ -127,7 +127,7 @@ module _ (i n : ℕ) where
       go true = rw (le-leb i i (omega arith), lt-ltb i (suc i) (omega arith))
       go false = refl
 
-  row-ascending : ascendingFrom i (map index (rowOf i n)) ≡ true
+  pub row-ascending : ascendingFrom i (map index (rowOf i n)) ≡ true
   unfolding rowOf ascendingFrom
   row-ascending = go (leb 2 n)
     where

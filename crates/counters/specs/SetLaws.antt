@@ -4,10 +4,13 @@ use mathlib.Core.Path.{_≡_, refl, sym, ap, _∙_}
 use mathlib.Core.List.{List, [], _∷_, _++_}
 use Prim.Native.Nat.{ℕ, suc, _+_, _*_, _-_, _≤_, _<_}
 use native.Mathlib.Omega.{arith}
+use native.Mathlib.Decide.{decLt}
+use lib.Dec.{eqb}
+use mathlib.Core.Bool.{Bool, true, false}
 use native.Mathlib.Numerals.{add-one}
 use lib.ListN.{length, take, drop, getD, set}
 use lib.Seq.{drop-cons, drop-drop, take-suc, set-split, append-snoc}
-use borrow.Author.Tests.{le-leb, lt-leb}
+use borrow.Author.Tests.{le-leb, lt-leb, eqb-true, eqb-false}
 use Rattle.base.specs.Logic.{zeros}
 use Rattle.rows.specs.Table.{rowsOf, tableOf}
 use Rattle.rows.specs.TableLaws.{length-rowsOf, table-rowsOf}
@@ -107,3 +110,27 @@ module _ (n : ℕ) (t : List ℕ) (ok : InOrder n t) (i m k : ℕ) (here : k ≡
     set-kept l =
         let e : setCount i m es ≡ es = set-none l ∙ put-none countRow (λ x. x .idx) firstWord (λ u. refl) n t (ok .laid) (in-order-sorted n t ok) i (suc i) k here behind in
         rw e (sym (length-rowsOf countRow n t), sym (table-rowsOf countRow n t (ok .laid)))
+
+  -- a row that comes makes no fewer rows, and a row that goes no more
+  more : 2 ≤ m → k ≡ place (suc i) (keys firstWord 2 n t) → n ≤ length (setCount i m es)
+  more l b =
+      omega (arith, ap length (set-one l), put-more countRow (λ x. x .idx) firstWord (λ u. refl) n t (ok .laid) (in-order-sorted n t ok) i (suc i) k here b row)
+
+  grows-at : 2 ≤ m → k < n → (b : Bool) → eqb (getD t (k * 2) 0) i ≡ b → n ≤ length (setCount i m es)
+  grows-at l h true e = omega (arith, set-replaced h (eqb-true (getD t (k * 2) 0) i e) l .0)
+  grows-at l h false e = more l (behind-none n t ok i k here h (eqb-false (getD t (k * 2) 0) i e))
+
+  pub set-grows : 2 ≤ m → n ≤ length (setCount i m es)
+  set-grows l =
+      elim (decLt k n) [ yes h ↦ grows-at l h (eqb (getD t (k * 2) 0) i) refl | no h ↦ more l (behind-all n t ok i k here (omega arith)) ]
+
+  shrinks-at : m < 2 → k < n → (b : Bool) → eqb (getD t (k * 2) 0) i ≡ b → length (setCount i m es) ≤ n
+  shrinks-at l h true e = omega (arith, set-removed h (eqb-true (getD t (k * 2) 0) i e) l .0)
+  shrinks-at l h false e = omega (arith, set-kept (behind-none n t ok i k here h (eqb-false (getD t (k * 2) 0) i e)) l .0)
+
+  pub set-shrinks : m < 2 → length (setCount i m es) ≤ n
+  set-shrinks l =
+      elim (decLt k n) [
+        | yes h ↦ shrinks-at l h (eqb (getD t (k * 2) 0) i) refl
+        | no h ↦ omega (arith, set-kept (behind-all n t ok i k here (omega arith)) l .0)
+      ]
