@@ -1,31 +1,31 @@
--- The sets that a count is in and the rules of shrinking, as the code decides them.
+-- The sets that a count is in, the members of a set, and the rules of shrinking, as the code decides them.
 -- Assumes nothing.
 use mathlib.Core.Path.{_≡_, refl, sym, ap, _∙_}
 use mathlib.Core.Bool.{Bool, true, false}
+use mathlib.Core.List.{List, [], _∷_}
 use Prim.Native.Nat.{ℕ, zero, suc, _+_, _-_, _*_, _/_, _%_, _^_, _≤_, _<_}
 use native.Mathlib.Nat.{zero-add, add-zero, suc-add, add-suc, zero-div, div-eq-of-lt, lt-of-lt-of-le}
-use native.Mathlib.Omega.{arith}
 use native.Mathlib.Numerals.{add-one}
+use native.Mathlib.Omega.{arith}
 use native.Mathlib.Decide.{decLe}
-use mathlib.Core.List.{List, [], _∷_}
-use lib.ListN.{length, take, drop, getD, set, replicate, length-map}
-use lib.Seq.{drop-length, take-suc, take-suc-set, take-all}
-use Rattle.base.specs.Logic.{pick, keep}
-use Rattle.base.specs.ListLaws.{length-keep}
-use Rattle.rows.specs.Table.{rowsOf}
-use Rattle.rows.specs.TableLaws.{length-rowsOf}
-use Rattle.counters.specs.Layout.{countRow, withMaintenance, stateOf, holds}
-use Rattle.counters.specs.Calls.{onState, decided, shrinkCall}
-use Rattle.counters.specs.declared.Counters.{Counters}
-use Rattle.base.specs.declared.Answer.the-variants.{Taken, Refused}
-use Rattle.base.specs.declared.Refusal.the-variants.{Broken}
-use Rattle.counters.specs.RowLaws.{rowAt, from-row}
 use lib.Dec.{eqb, ltb}
 use lib.Pow.{pow-mono}
+use lib.ListN.{length, take, drop, getD, set, replicate, length-map}
+use lib.Seq.{drop-length, take-suc, take-suc-set, take-all}
 use borrow.Author.Tests.{le-leb, lt-leb, lt-ltb, le-ltb, eq-eqb, ne-eqb}
+use Rattle.base.specs.Logic.{pick, keep}
+use Rattle.base.specs.ListLaws.{length-keep}
+use Rattle.base.specs.declared.Answer.the-variants.{Taken, Refused}
+use Rattle.base.specs.declared.Refusal.the-variants.{Broken}
+use Rattle.rows.specs.Table.{rowsOf}
+use Rattle.rows.specs.TableLaws.{length-rowsOf}
+use Rattle.counters.specs.declared.Counters.{Counters}
+use Rattle.counters.specs.declared.CounterMaintenance.{CounterMaintenance}
 use Rattle.counters.specs.Counts.{Entry, smallCode, inSet, members}
 use Rattle.counters.specs.Maintenance.{Settings, standard, adjustShrinkThreshold, setMinimum, shouldShrink, setsShrink, resetWhere, decide, shrunk}
-use Rattle.counters.specs.declared.CounterMaintenance.{CounterMaintenance}
+use Rattle.counters.specs.Layout.{countRow, withMaintenance, stateOf, holds}
+use Rattle.counters.specs.Calls.{onState, decided, shrinkCall}
+use Rattle.counters.specs.RowLaws.{rowAt, from-row}
 
 -- ---- the sets that a count is in
 module _ (k n : ℕ) where
@@ -66,7 +66,7 @@ length-members : (k : ℕ) (e : Entry) (es : List Entry) → length (members k (
 unfolding members
 length-members k e es = simp length-map (length-keep (λ x. inSet k (x .count)) e es)
 
--- the members from row i on
+-- how many members there are from row i on
 abbrev pub membersFrom : ℕ → ℕ → List ℕ → ℕ → ℕ
 membersFrom k n t i = length (members k (drop i (rowsOf countRow n t)))
 
@@ -88,7 +88,7 @@ module _ (k n : ℕ) (t : List ℕ) (i : ℕ) where
 
 -- ---- the alive threshold
 -- maintenance after an alive shrink that saved some bytes: the threshold moves
-unfoldable pub adjusted : Settings → ℕ → CounterMaintenance → CounterMaintenance
+abbrev pub adjusted : Settings → ℕ → CounterMaintenance → CounterMaintenance
 adjusted g saved m =
     record {
       «alive_removed_since_shrink» = m .«alive_removed_since_shrink»;
@@ -183,7 +183,7 @@ withRemoved m n ns =
 module _ (saved : ℕ) (alive : Bool) (small : List Bool) (m : CounterMaintenance) (n : ℕ) (ns : List ℕ)
     (alive-left : n ≡ pick alive 0 (m .«alive_removed_since_shrink»)) (small-left : ns ≡ resetWhere small (m .«small_removed_since_shrink»)) where
   pub after-yes : alive ≡ true → adjusted standard saved (withRemoved m n ns) ≡ shrunk standard saved (record { alive = alive; small = small }) m
-  unfolding adjusted shrunk
+  unfolding shrunk
   after-yes e = rw (alive-left, small-left, e)
 
   pub after-no : alive ≡ false → withRemoved m n ns ≡ shrunk standard saved (record { alive = alive; small = small }) m
