@@ -5,9 +5,10 @@ use mathlib.Core.Bool.{Bool, true, false, _&&_, false≢true}
 use mathlib.Core.List.{List, [], _∷_, map}
 use Prim.Native.Nat.{ℕ, suc, _*_, _≤_, _<_}
 use native.Mathlib.Omega.{arith}
-use lib.Dec.{leb}
+use lib.Dec.{leb, ltb}
 use lib.ListN.{length, drop}
-use borrow.Author.Tests.{leb-true, leb-false}
+use borrow.Author.Tests.{le-leb, lt-leb, le-ltb, lt-ltb, leb-true, leb-false}
+use native.Mathlib.Decide.{decLt}
 use Rattle.base.specs.Logic.{pick, all, keep, fold, ascendingFrom}
 use Rattle.base.specs.Laws.{and-left, and-right}
 use Rattle.base.specs.ListLaws.{all-kept, all-keep}
@@ -19,7 +20,7 @@ use Rattle.counters.specs.declared.CounterTransition.{CounterTransition}
 use Rattle.counters.specs.Counts.{Entry, rowOf, setCount}
 use Rattle.counters.specs.Layout.{countRow}
 use Rattle.counters.specs.Batch.{changes, kept, countsAfter}
-use Rattle.counters.specs.Steps.{leavesRow, some, applyOne}
+use Rattle.counters.specs.Steps.{transition, leavesRow, some, applyOne}
 use Rattle.counters.specs.Held.{InOrder}
 use Rattle.counters.specs.RowLaws.{indices}
 use Rattle.counters.specs.SetLaws.{set-grows, set-shrinks}
@@ -136,3 +137,29 @@ module _ (many : Bool) (x : CounterTransition) (xs : List CounterTransition) (es
           turn ∙ ap (λ (b : Bool). countsAfter (some many xs) (pick b set es)) e in
           fits many (and-right (changes x) (leavesRow many x) e) (rw q at k)
       go false e = h
+
+-- whether it is due: it leaves a row, or none
+pub leaves-many : (i old new : ℕ) → leb 2 new ≡ leavesRow true (transition i old new)
+leaves-many i old new = refl
+
+pub leaves-few : (i old new : ℕ) → ltb new 2 ≡ leavesRow false (transition i old new)
+leaves-few i old new =
+    elim (decLt new 2) [
+      | yes h ↦ rw (lt-ltb new 2 h, lt-leb 2 new h)
+      | no h ↦ rw (le-ltb new 2 (omega arith), le-leb 2 new (omega arith))
+    ]
+
+-- ---- what applying one leaves, by whether it is due
+module _ (many : Bool) (x : CounterTransition) (es : List Entry) where
+  pub one-due : (changes x && leavesRow many x) ≡ true → applyOne many x es ≡ setCount (x .idx .0) (x .«new_raw») es
+  unfolding applyOne
+  one-due e = rw e
+
+  pub one-other : (changes x && leavesRow many x) ≡ false → applyOne many x es ≡ es
+  unfolding applyOne
+  one-other e = rw e
+
+-- no transition is left
+pub some-none : (many : Bool) (es : List Entry) → countsAfter (some many []) es ≡ es
+unfolding some kept keep countsAfter fold
+some-none many es = refl

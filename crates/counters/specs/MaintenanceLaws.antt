@@ -1,27 +1,31 @@
--- The sets that a count is in and the rules of shrinking, as the code decides them.
+-- The sets that a count is in, the members of a set, and the rules of shrinking, as the code decides them.
 -- Assumes nothing.
 use mathlib.Core.Path.{_≡_, refl, sym, ap, _∙_}
 use mathlib.Core.Bool.{Bool, true, false}
+use mathlib.Core.List.{List, [], _∷_}
 use Prim.Native.Nat.{ℕ, zero, suc, _+_, _-_, _*_, _/_, _%_, _^_, _≤_, _<_}
 use native.Mathlib.Nat.{zero-add, add-zero, suc-add, add-suc, zero-div, div-eq-of-lt, lt-of-lt-of-le}
-use native.Mathlib.Omega.{arith}
 use native.Mathlib.Numerals.{add-one}
+use native.Mathlib.Omega.{arith}
 use native.Mathlib.Decide.{decLe}
-use mathlib.Core.List.{List, [], _∷_}
-use lib.ListN.{length, take, drop, getD, set, length-map}
-use lib.Seq.{drop-length, take-suc, take-suc-set, take-all}
-use Rattle.base.specs.Logic.{pick, keep}
-use Rattle.base.specs.ListLaws.{length-keep}
-use Rattle.rows.specs.Table.{rowsOf}
-use Rattle.rows.specs.TableLaws.{length-rowsOf}
-use Rattle.counters.specs.Layout.{countRow}
-use Rattle.counters.specs.RowLaws.{rowAt, from-row}
 use lib.Dec.{eqb, ltb}
 use lib.Pow.{pow-mono}
+use lib.ListN.{length, take, drop, getD, set, replicate, length-map}
+use lib.Seq.{drop-length, take-suc, take-suc-set, take-all}
 use borrow.Author.Tests.{le-leb, lt-leb, lt-ltb, le-ltb, eq-eqb, ne-eqb}
-use Rattle.counters.specs.Counts.{Entry, smallCode, inSet, members}
-use Rattle.counters.specs.Maintenance.{Settings, standard, adjustShrinkThreshold, setMinimum, shouldShrink, setsShrink, resetWhere}
+use Rattle.base.specs.Logic.{pick, keep}
+use Rattle.base.specs.ListLaws.{length-keep}
+use Rattle.base.specs.declared.Answer.the-variants.{Taken, Refused}
+use Rattle.base.specs.declared.Refusal.the-variants.{Broken}
+use Rattle.rows.specs.Table.{rowsOf}
+use Rattle.rows.specs.TableLaws.{length-rowsOf}
+use Rattle.counters.specs.declared.Counters.{Counters}
 use Rattle.counters.specs.declared.CounterMaintenance.{CounterMaintenance}
+use Rattle.counters.specs.Counts.{Entry, smallCode, inSet, members}
+use Rattle.counters.specs.Maintenance.{Settings, standard, adjustShrinkThreshold, setMinimum, shouldShrink, setsShrink, resetWhere, decide, shrunk}
+use Rattle.counters.specs.Layout.{countRow, withMaintenance, stateOf, holds}
+use Rattle.counters.specs.Calls.{onState, decided, shrinkCall}
+use Rattle.counters.specs.RowLaws.{rowAt, from-row}
 
 -- ---- the sets that a count is in
 module _ (k n : ℕ) where
@@ -62,7 +66,7 @@ length-members : (k : ℕ) (e : Entry) (es : List Entry) → length (members k (
 unfolding members
 length-members k e es = simp length-map (length-keep (λ x. inSet k (x .count)) e es)
 
--- the members from row i on
+-- how many members there are from row i on
 abbrev pub membersFrom : ℕ → ℕ → List ℕ → ℕ → ℕ
 membersFrom k n t i = length (members k (drop i (rowsOf countRow n t)))
 
@@ -84,7 +88,7 @@ module _ (k n : ℕ) (t : List ℕ) (i : ℕ) where
 
 -- ---- the alive threshold
 -- maintenance after an alive shrink that saved some bytes: the threshold moves
-unfoldable pub adjusted : Settings → ℕ → CounterMaintenance → CounterMaintenance
+abbrev pub adjusted : Settings → ℕ → CounterMaintenance → CounterMaintenance
 adjusted g saved m =
     record {
       «alive_removed_since_shrink» = m .«alive_removed_since_shrink»;
@@ -165,3 +169,37 @@ reset-at [] rs i h = refl
 reset-at (y ∷ ys) [] i h = absurd (omega arith)
 reset-at (y ∷ ys) (r ∷ rs) zero h = refl
 reset-at (y ∷ ys) (r ∷ rs) (suc i) h = reset-at ys rs i (omega arith)
+
+-- ---- maintenance after the decisions
+-- maintenance with other removal counts
+abbrev pub withRemoved : CounterMaintenance → ℕ → List ℕ → CounterMaintenance
+withRemoved m n ns =
+    record {
+      «alive_removed_since_shrink» = n;
+      «small_removed_since_shrink» = ns;
+      «min_alive_removed_before_shrink» = m .«min_alive_removed_before_shrink»;
+    }
+
+module _ (saved : ℕ) (alive : Bool) (small : List Bool) (m : CounterMaintenance) (n : ℕ) (ns : List ℕ)
+    (alive-left : n ≡ pick alive 0 (m .«alive_removed_since_shrink»)) (small-left : ns ≡ resetWhere small (m .«small_removed_since_shrink»)) where
+  pub after-yes : alive ≡ true → adjusted standard saved (withRemoved m n ns) ≡ shrunk standard saved (record { alive = alive; small = small }) m
+  unfolding shrunk
+  after-yes e = rw (alive-left, small-left, e)
+
+  pub after-no : alive ≡ false → withRemoved m n ns ≡ shrunk standard saved (record { alive = alive; small = small }) m
+  unfolding shrunk
+  after-no e = rw (alive-left, small-left, e)
+
+-- ---- the call, by the check of its table
+module _ (c : Counters) (t : List ℕ) (saved : ℕ) where
+  pub shrink-broken : holds c t ≡ false → record { answer = Refused Broken; alive = false; small = replicate 8 false; counters = c } ≡ shrinkCall standard c t saved
+  unfolding shrinkCall decided onState
+  shrink-broken h = rw h
+
+  pub shrink-held : (alive : Bool) (small : List Bool) (m : CounterMaintenance) → holds c t ≡ true
+      → alive ≡ shouldShrink (c .stored) (c .maintenance .«alive_removed_since_shrink») (c .maintenance .«min_alive_removed_before_shrink»)
+      → small ≡ setsShrink (rowsOf countRow (c .stored) t) 0 (c .maintenance .«small_removed_since_shrink»)
+      → m ≡ shrunk standard saved (record { alive = alive; small = small }) (c .maintenance)
+      → record { answer = Taken; alive = alive; small = small; counters = withMaintenance c m } ≡ shrinkCall standard c t saved
+  unfolding shrinkCall decided onState decide stateOf
+  shrink-held alive small m h a s e = rw (h, length-rowsOf countRow (c .stored) t, e, a, s)

@@ -1,6 +1,12 @@
 // Maintenance: which sets a count is in, the removal counts, and when to shrink.
 use crate::CounterMaintenance;
+use crate::Counters;
+use crate::Shrunk;
+use crate::table;
+use base::Answer;
+use base::Refusal;
 ghost use mathlib.Core.Path.{_≡_};
+ghost use mathlib.Core.Bool.{true};
 ghost use Prim.Native.Nat.{_*_, _≤_};
 ghost use lib.ListN.{length};
 ghost use Rattle.base.specs.Logic.{pick};
@@ -8,20 +14,25 @@ ghost use Rattle.rows.specs.Table.{rowsOf};
 ghost use Rattle.counters.specs.Counts as counts;
 ghost use Rattle.counters.specs.Counts.{inSet};
 ghost use Rattle.counters.specs.Layout.{countRow};
+ghost use Rattle.counters.specs.Layout as layout;
+ghost use Rattle.counters.specs.Calls.{shrinkCall};
 ghost use Rattle.counters.specs.Maintenance as maintenance;
-ghost use Rattle.counters.specs.Maintenance.{standard, setMinimum, shouldShrink, adjustShrinkThreshold, setsShrink, resetWhere};
+ghost use Rattle.counters.specs.Maintenance.{standard, setMinimum, shouldShrink, adjustShrinkThreshold, setsShrink, resetWhere, shrunk};
 ghost use Rattle.counters.specs.MaintenanceLaws.{adjusted};
 
+// A removal count stops here.
 const MAX64: u64 = 0xffff_ffff_ffff_ffff;
 
-// The alive threshold: where it starts, how far it goes, and from how many bytes saved it starts again.
+// The alive threshold starts here, and starts again after a good save.
 const BASE: u64 = 131_072;
 
+// The alive threshold doubles up to this.
 const MOST: u64 = 2_097_152;
 
+// From so many bytes saved on, a save is good.
 const GOOD_SAVE: u64 = 1_048_576;
 
-// The least number of removals before a set shrinks.
+// A set doesn't shrink before so many removals.
 const SET_MINIMUM: u64 = 65_536;
 
 // Whether set k has an index with the count n. A count from 2 to 256 lies as count - 1 over eight sets.
@@ -154,4 +165,63 @@ fn reset_where(small: [bool; 8], removed: [u64; 8]) -> [u64; 8]
         k += 1;
     }
     left
+}
+
+// Maintenance after the decisions. A yes sets its removal count to 0, and the threshold moves after an alive yes only.
+fn maintenance_after(
+    m: CounterMaintenance,
+    alive: bool,
+    small: [bool; 8],
+    saved: u64,
+) -> CounterMaintenance
+    ensures { λ r. ⌜ r ≡ shrunk standard saved (record { alive = alive; small = small }) m ⌝ }
+{
+    let removed = m.small_removed_since_shrink;
+    let left = reset_where(small, removed);
+    let mut after = m;
+    after.alive_removed_since_shrink = left_after(alive, m.alive_removed_since_shrink);
+    after.small_removed_since_shrink = left;
+    if alive {
+        return after.adjust_shrink_threshold(saved);
+    }
+    after
+}
+
+// The shrink decisions over a table that holds a state, and the record after them.
+pub fn shrink_held(c: Counters, t: &[u64], saved: u64) -> Shrunk
+    requires { ⌜ layout.holds c (now t) ≡ true ⌝ }
+    ensures { λ r. ⌜ r ≡ shrinkCall standard c (now (t .entry)) saved ⌝ }
+{
+    let n = c.stored;
+    let m = c.maintenance;
+    let removed = m.small_removed_since_shrink;
+    let small = sets_shrink(t, n, removed);
+    let alive = should_shrink(
+        n as u64,
+        m.alive_removed_since_shrink,
+        m.min_alive_removed_before_shrink,
+    );
+    let mut counters = c;
+    counters.maintenance = maintenance_after(m, alive, small, saved);
+    Shrunk {
+        answer: Answer::Taken,
+        alive,
+        small,
+        counters,
+    }
+}
+
+// The shrink decisions, over a table that is checked first. saved is the bytes that the alive shrink saves.
+pub fn shrink_if_needed(c: Counters, t: &[u64], saved: u64) -> Shrunk
+    ensures { λ r. ⌜ r ≡ shrinkCall standard c (now (t .entry)) saved ⌝ }
+{
+    if !table::holds(c, t) {
+        return Shrunk {
+            answer: Answer::Refused(Refusal::Broken),
+            alive: false,
+            small: [false; 8],
+            counters: c,
+        };
+    }
+    shrink_held(c, t, saved)
 }

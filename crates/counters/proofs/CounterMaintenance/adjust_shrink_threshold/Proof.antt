@@ -1,4 +1,3 @@
-use Rattle.counters.specs.MaintenanceLaws.{adjusted}
 use borrow.Author.Needs.{needs}
 use Rattle.counters.proofs.CounterMaintenance.adjust_shrink_threshold.Statement.{statement}
 use Rattle.counters.proofs.CounterMaintenance.adjust_shrink_threshold.Tie as tie
@@ -7,7 +6,6 @@ threshold-after-requires : tie.Need-threshold-after-requires
 threshold-after-requires c κs = search needs
 
 returns : tie.Need-returns
-unfolding adjusted
 returns c = rw (c .threshold-after .ensures)
 
 pub adjust-shrink-threshold-spec : {M : Type 1} → statement M
