@@ -4,15 +4,16 @@ use crate::maintenance;
 use crate::table;
 ghost use mathlib.Core.Path.{_≡_};
 ghost use mathlib.Core.Bool.{_&&_, _||_};
-ghost use Prim.Native.Nat.{_+_, _/_, _≤_, _<_};
+ghost use Prim.Native.Nat.{_+_, _*_, _/_, _≤_, _<_};
 ghost use lib.Dec.{ltb, eqb};
 ghost use lib.ListN.{length, drop};
 ghost use Rattle.base.specs.Logic.{pick, any, elem, keep, repeated, max64};
+ghost use Rattle.rows.specs.Table as rows-table;
 ghost use Rattle.rows.specs.Table.{rowsOf};
 ghost use Rattle.counters.specs.Layout.{countRow};
-ghost use Rattle.counters.specs.Batch.{changes, kept, named, unallocated, falseOld};
+ghost use Rattle.counters.specs.Batch.{changes, kept, named, unallocated, falseOld, countsAfter};
 ghost use Rattle.counters.specs.Held.{InOrder};
-ghost use Rattle.counters.specs.Steps.{transition, transitionAt, transitions, ofKind};
+ghost use Rattle.counters.specs.Steps.{transition, transitionAt, transitions, ofKind, leavesRow, some, applyOne};
 
 // Whether a transition changes a count at an index that isn't allocated.
 fn is_unallocated(next: u64, idx: u64, old: u64, new: u64) -> bool
@@ -185,4 +186,46 @@ pub fn off_total(live: u64, births: u64, deaths: u64) -> bool
         return true;
     }
     live + births < deaths
+}
+
+// Whether a transition is kept and leaves a row (many), or is kept and leaves none.
+fn is_due(many: bool, idx: u64, old: u64, new: u64) -> bool
+    ensures { λ r. ⌜ r ≡ (changes (transition idx old new) && leavesRow many (transition idx old new)) ⌝ }
+{
+    if old == new {
+        return false;
+    }
+    if many {
+        return 2 <= new;
+    }
+    new < 2
+}
+
+// Applies one transition to the table if it is due. Returns how many rows there are then.
+fn apply_one(t: &mut [u64], n: usize, idx: u64, old: u64, new: u64, many: bool) -> usize
+    requires { ⌜ InOrder n (now t) ⌝ }
+    requires { ⌜ length (applyOne many (transition idx old new) (rowsOf countRow n (now t))) * 2 ≤ length (now t) ⌝ }
+    ensures { λ r. ⌜ (r ≡ length (applyOne many (transition idx old new) (rowsOf countRow n (now (t .entry))))) × (now (t .exit) ≡ rows-table.tableOf countRow (length (now (t .entry))) (applyOne many (transition idx old new) (rowsOf countRow n (now (t .entry))))) ⌝ }
+{
+    if is_due(many, idx, old, new) {
+        return table::set_count(t, n, idx, new);
+    }
+    n
+}
+
+// Applies the kept transitions that leave a row (many), or those that leave none. Returns how many rows there are then.
+pub fn apply_some(t: &mut [u64], n: usize, b: &[u64], many: bool) -> usize
+    requires { ⌜ InOrder n (now t) ⌝ }
+    requires { ⌜ length (countsAfter (some many (transitions (now b))) (rowsOf countRow n (now t))) * 2 ≤ length (now t) ⌝ }
+    ensures { λ r. ⌜ (r ≡ length (countsAfter (some many (transitions (now (b .entry)))) (rowsOf countRow n (now (t .entry))))) × (now (t .exit) ≡ rows-table.tableOf countRow (length (now (t .entry))) (countsAfter (some many (transitions (now (b .entry)))) (rowsOf countRow n (now (t .entry))))) ⌝ }
+{
+    let m = b.len() / 3;
+    let mut rows = n;
+    let mut i = 0;
+    while i < m {
+        let next = apply_one(t, rows, b[i * 3], b[i * 3 + 1], b[i * 3 + 2], many);
+        rows = next;
+        i += 1;
+    }
+    rows
 }

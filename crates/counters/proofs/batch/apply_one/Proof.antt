@@ -1,31 +1,45 @@
-use mathlib.Core.Path.{_≡_, sym, ap, _∙_}
-use mathlib.Core.Bool.{Bool, true, false, _&&_}
-use Prim.Native.Nat.{ℕ, suc, _+_, _*_, _-_, _/_, _≤_, _<_}
-use native.Mathlib.Omega.{arith}
-use native.Mathlib.Numerals.{add-one}
+use mathlib.Core.Path.{sym, _∙_}
 use borrow.Author.Needs.{needs}
-use borrow.Author.Tests.{eq-eqb, ne-eqb}
-use lib.Dec.{eqb}
-use lib.ListN.{length, drop, getD}
-use Rattle.base.specs.Logic.{any, elem, keep, repeated, pick}
 use Rattle.rows.specs.Table.{rowsOf}
 use Rattle.counters.specs.Layout.{countRow}
-use Rattle.counters.specs.Batch.{changes, kept, named, unallocated, falseOld}
-use Rattle.counters.specs.Steps.{transition, transitionAt, transitions, ofKind}
-use Rattle.counters.specs.StepLaws.{in-batch, from-transition, no-transition, any-passed, any-decided, counted, once-passed, twice-decided, elem-named, any-none, count-none, once-none, unchanged, changed}
-use Rattle.rows.specs.Table as rows-table
-use Rattle.rows.specs.TableLaws.{rowsOf-table, length-table, table-rowsOf, length-rowsOf}
-use Rattle.counters.specs.Batch.{countsAfter}
-use Rattle.counters.specs.Counts.{Entry, setCount}
-use mathlib.Core.List.{List}
-use Rattle.counters.specs.Steps.{leavesRow, some, applyOne}
-use Rattle.counters.specs.Held.{InOrder}
-use Rattle.counters.specs.ApplyLaws.{in-order-table, in-order-ascends, leaves-many, leaves-few, one-due, one-other, one-ascends, one-fits, turn, some-none}
+use Rattle.counters.specs.Steps.{transition}
+use Rattle.rows.specs.TableLaws.{table-rowsOf, length-rowsOf}
+use Rattle.counters.specs.ApplyLaws.{one-due, one-other}
 use Rattle.counters.proofs.batch.apply_one.Statement.{statement}
 use Rattle.counters.proofs.batch.apply_one.Tie as tie
+
+is-due-requires : tie.Need-is-due-requires
+is-due-requires c κs = search needs
+
+set-count-requires : tie.Need-set-count-requires
+set-count-requires c κs =
+    let s = c .before .before .before .before in
+    let a = s .args in
+    let e = one-due (a .many) (transition (a .idx) (a .old) (a .new)) (rowsOf countRow (a .n) (a .t .now)) (sym (c .before .before .is-due .ensures) ∙ c .before .if1 .taken) in
+    (s .pre .0, rw e at (s .pre .1))
+
+same-length : tie.Need-same-length
+same-length c = search needs
+
+returns : tie.Need-returns
+returns c =
+    let a = c .before .before .before .before .before .before .before .args in
+    let e = one-due (a .many) (transition (a .idx) (a .old) (a .new)) (rowsOf countRow (a .n) (a .t .now)) (sym (c .before .before .before .before .before .is-due .ensures) ∙ c .before .before .before .before .if1 .taken) in
+    rw e (c .before .before .set-count .ensures)
+
+returns-2 : tie.Need-returns-2
+returns-2 c =
+    let s = c .before .before .before in
+    let a = s .args in
+    let e = one-other (a .many) (transition (a .idx) (a .old) (a .new)) (rowsOf countRow (a .n) (a .t .now)) (sym (c .before .is-due .ensures) ∙ c .if1 .left) in
+    rw e (sym (length-rowsOf countRow (a .n) (a .t .now)), sym (table-rowsOf countRow (a .n) (a .t .now) (s .pre .0 .laid)))
 
 pub apply-one-spec : {M : Type 1} → statement M
 apply-one-spec =
     tie.close
     (tie.spec
-    )
+    is-due-requires
+    set-count-requires
+    same-length
+    returns
+    returns-2)

@@ -1,31 +1,24 @@
-use mathlib.Core.Path.{_≡_, sym, ap, _∙_}
-use mathlib.Core.Bool.{Bool, true, false, _&&_}
-use Prim.Native.Nat.{ℕ, suc, _+_, _*_, _-_, _/_, _≤_, _<_}
-use native.Mathlib.Omega.{arith}
-use native.Mathlib.Numerals.{add-one}
-use borrow.Author.Needs.{needs}
-use borrow.Author.Tests.{eq-eqb, ne-eqb}
-use lib.Dec.{eqb}
-use lib.ListN.{length, drop, getD}
-use Rattle.base.specs.Logic.{any, elem, keep, repeated, pick}
-use Rattle.rows.specs.Table.{rowsOf}
-use Rattle.counters.specs.Layout.{countRow}
-use Rattle.counters.specs.Batch.{changes, kept, named, unallocated, falseOld}
-use Rattle.counters.specs.Steps.{transition, transitionAt, transitions, ofKind}
-use Rattle.counters.specs.StepLaws.{in-batch, from-transition, no-transition, any-passed, any-decided, counted, once-passed, twice-decided, elem-named, any-none, count-none, once-none, unchanged, changed}
-use Rattle.rows.specs.Table as rows-table
-use Rattle.rows.specs.TableLaws.{rowsOf-table, length-table, table-rowsOf, length-rowsOf}
-use Rattle.counters.specs.Batch.{countsAfter}
-use Rattle.counters.specs.Counts.{Entry, setCount}
-use mathlib.Core.List.{List}
-use Rattle.counters.specs.Steps.{leavesRow, some, applyOne}
-use Rattle.counters.specs.Held.{InOrder}
-use Rattle.counters.specs.ApplyLaws.{in-order-table, in-order-ascends, leaves-many, leaves-few, one-due, one-other, one-ascends, one-fits, turn, some-none}
+use mathlib.Core.Path.{_∙_}
+use Rattle.counters.specs.Steps.{transition}
+use Rattle.counters.specs.StepLaws.{unchanged, changed}
+use Rattle.counters.specs.Steps.{leavesRow}
+use Rattle.counters.specs.ApplyLaws.{leaves-many, leaves-few}
 use Rattle.counters.proofs.batch.is_due.Statement.{statement}
 use Rattle.counters.proofs.batch.is_due.Tie as tie
+
+returns : tie.Need-returns
+returns c = let a = c .before .args in unchanged (a .idx) (a .old) (a .new) (leavesRow (a .many) (transition (a .idx) (a .old) (a .new))) (c .if1 .taken)
+
+returns-2 : tie.Need-returns-2
+returns-2 c = let a = c .before .before .args in (rw (c .if2 .taken) (leaves-many (a .idx) (a .old) (a .new))) ∙ changed (a .idx) (a .old) (a .new) (leavesRow (a .many) (transition (a .idx) (a .old) (a .new))) (c .before .if1 .left)
+
+returns-3 : tie.Need-returns-3
+returns-3 c = let a = c .before .before .args in (rw (c .if2 .left) (leaves-few (a .idx) (a .old) (a .new))) ∙ changed (a .idx) (a .old) (a .new) (leavesRow (a .many) (transition (a .idx) (a .old) (a .new))) (c .before .if1 .left)
 
 pub is-due-spec : {M : Type 1} → statement M
 is-due-spec =
     tie.close
     (tie.spec
-    )
+    returns
+    returns-2
+    returns-3)
