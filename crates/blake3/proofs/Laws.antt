@@ -15,7 +15,7 @@ use Rattle.base.specs.Logic.{all, flat, from, fold, zeros}
 use Rattle.base.specs.Bytes.{le32, unle, digits, number}
 use Rattle.base.specs.Laws.{and-left, and-right}
 use Rattle.blake3.specs.Spec.{at, wrapAdd, rotr, mix, g, columns, diagonals, round, schedule, scheduled, rounds, iv, start, compress, blockWords, padded, chunkStart, chunkEnd, chain, chunk, parentOf, doubled, leftLen, tree}
-use Rattle.blake3.specs.Equations.{tree-parent}
+use Rattle.blake3.specs.Equations.{tree-chunk, tree-parent}
 
 -- ---- rounds
 
@@ -206,7 +206,8 @@ start-stored cv counter len flags h e =
 unfoldable pub halves : List ℕ → ℕ → ℕ
 halves v i = bitXor (at v i) (at v (i + 8))
 
-pub halves-more : (v : List ℕ) (k : ℕ) {t : List ℕ} → t ≡ filled (halves v) k (zeros 8) → set t k (bitXor (at v k) (at v (k + 8))) ≡ filled (halves v) (k + 1) (zeros 8)
+pub halves-more : (v : List ℕ) (k : ℕ) {t : List ℕ} → t ≡ filled (halves v) k (zeros 8)
+    → set t k (bitXor (at v k) (at v (k + 8))) ≡ filled (halves v) (k + 1) (zeros 8)
 unfolding halves
 halves-more v k e = filled-more (halves v) k (zeros 8) e refl
 
@@ -214,10 +215,6 @@ pub compressed : (cv m : List ℕ) (counter len flags : ℕ) {s v r : List ℕ} 
     → r ≡ map (halves v) (from 0 8) → r ≡ compress cv m counter len flags
 unfolding compress halves
 compressed cv m counter len flags p q e = e ∙ ap (λ (v : List ℕ). map (halves v) (from 0 8)) (q ∙ ap (rounds m) p)
-
--- a whole block has no padding
-pub padded-whole : (bs : List ℕ) → length bs ≡ 64 → padded bs ≡ bs
-padded-whole bs h = rw h (append-nil bs)
 
 -- ---- chunks
 
@@ -263,6 +260,10 @@ module _ (flags top counter first : ℕ) (cv s : List ℕ) (i : ℕ) where
 -- what is left of a list from k on, as a part from k to the end
 pub rest : (bs : List ℕ) (k : ℕ) → take (length bs - k) (drop k bs) ≡ drop k bs
 rest bs k = take-all (length bs - k) (drop k bs) (omega (arith, length-drop k bs))
+
+-- at most a chunk
+pub chunk-tree : (key : List ℕ) (flags top counter : ℕ) (bs : List ℕ) {v : List ℕ} → length bs ≤ 1024 → v ≡ chunk key flags top counter bs → v ≡ tree key flags top counter bs
+chunk-tree key flags top counter bs h e = e ∙ sym (tree-chunk key flags top counter bs h)
 
 -- a parent of the trees of the two parts
 pub parent-tree : (key : List ℕ) (flags top counter : ℕ) (bs : List ℕ) {k : ℕ} {l r v : List ℕ} → 1024 < length bs → k ≡ leftLen (length bs)

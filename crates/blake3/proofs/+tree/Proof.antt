@@ -1,10 +1,8 @@
 -- `blake3::tree` meets its contract. The measure is the length. Each part is shorter, and its first chunk's counter fits.
 -- Assumes nothing.
-use mathlib.Core.Path.{sym, _∙_}
 use native.Mathlib.Omega.{arith}
 use lib.ListN.{length, length-take, length-drop}
-use Rattle.blake3.specs.Equations.{tree-chunk}
-use Rattle.blake3.proofs.Laws.{parent-tree}
+use Rattle.blake3.proofs.Laws.{chunk-tree, parent-tree}
 use Prim.Native.Nat.{ℕ, _<_}
 use borrow.Fn.Kinds.{In}
 use borrow.Fn.PlainCycle.{Measures, is, falls, and}
@@ -34,7 +32,7 @@ given t =
 returns : (t : ℕ) → tree-lts.Need-returns (given t) (tree-at t) tree.Post
 returns t c =
     let a = c .before .before .before .args in
-    c .chunk .ensures ∙ sym (tree-chunk (a .key) (a .flags) (a .root) (a .counter) (a .s .now) (c .before .if1 .taken))
+    chunk-tree (a .key) (a .flags) (a .root) (a .counter) (a .s .now) (c .before .if1 .taken) (c .chunk .ensures)
 
 returns-2 : (t : ℕ) → tree-lts.Need-returns-2 (given t) (tree-at t) tree.Post
 returns-2 t c =

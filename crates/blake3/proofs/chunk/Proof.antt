@@ -1,10 +1,10 @@
 -- `blake3::chunk` meets its contract. The loop's invariant: the blocks that are left give the chunk's chaining value.
 -- Assumes nothing.
-use mathlib.Core.Path.{_≡_, refl}
+use mathlib.Core.Path.{_≡_, refl, ap, _∙_}
 use Prim.Native.Nat.{_-_, _≤_}
 use native.Mathlib.Omega.{arith}
 use lib.ListN.{length, drop, length-take, length-drop}
-use Rattle.blake3.specs.Spec.{chunk}
+use Rattle.blake3.specs.Spec.{blockWords, chunk}
 use Rattle.blake3.proofs.Laws.{blocks, one-block, last-block}
 use borrow.Author.Needs.{needs}
 use Rattle.blake3.proofs.chunk.Statement.{statement}
@@ -26,23 +26,23 @@ block-words-requires c κs = simp (length-take, length-drop) (omega arith)
 
 loop-again : tie.Need-loop-again Inv-loop μ-loop
 loop-again c =
-    let l = c .before .before .before .before .before .loop in
-    let a = c .before .before .before .before .before .before .before .args in (
+    let l = c .before .before .before .before .before .before .loop in
+    let a = c .before .before .before .before .before .before .before .before .args in (
       omega arith,
       omega arith,
       one-block (a .flags) (a .root) (a .counter) (l .first) (l .cv) (a .s .now) (l .at)
-          (c .before .before .before .before .loop-test .taken) (l .inv .2) (c .before .before .block-words .ensures) (c .compress .ensures),
+          (c .before .before .before .before .before .loop-test .taken) (l .inv .2) (c .before .before .before .block-words .ensures) (c .compress .ensures),
     )
 
-last-words-requires : tie.Need-last-words-requires Inv-loop μ-loop
-last-words-requires c κs = simp (length-take, length-drop) (omega arith)
+padded-requires : tie.Need-padded-requires Inv-loop μ-loop
+padded-requires c κs = simp (length-take, length-drop) (omega arith)
 
 returns : tie.Need-returns Inv-loop μ-loop
 returns c =
-    let l = c .before .before .before .before .before .loop in
-    let a = c .before .before .before .before .before .before .before .args in
+    let l = c .before .before .before .before .before .before .before .before .loop in
+    let a = c .before .before .before .before .before .before .before .before .before .before .args in
     last-block (a .flags) (a .root) (a .counter) (l .first) (l .cv) (a .s .now) (l .at)
-    (omega arith) (l .inv .2) (c .before .before .last-words .ensures) (c .compress2 .ensures)
+    (omega arith) (l .inv .2) (c .before .before .before .block-words2 .ensures ∙ ap blockWords (c .before .before .before .before .before .padded .ensures)) (c .compress2 .ensures)
 
 pub chunk-spec : {M : Type 1} → statement M
 chunk-spec =
@@ -65,7 +65,9 @@ chunk-spec =
     (λ c. search needs)
     (λ c. search needs)
     (λ c. search needs)
-    last-words-requires
+    padded-requires
+    (λ c. search needs)
+    (λ c κs. search needs)
     (λ c. search needs)
     (λ c. search needs)
     (λ c. search needs)

@@ -10,10 +10,10 @@ use Rattle.blake3.proofs.compress.Statement.{statement}
 use Rattle.blake3.proofs.compress.Tie as tie
 
 abbrev Inv-loop : tie.InvT-loop
-Inv-loop m counter block-len flags v next₀ i₀ next i = (i ≤ 8) × (next ≡ filled (halves v) i (zeros 8))
+Inv-loop cv m counter block-len flags v next₀ i₀ next i = (i ≤ 8) × (next ≡ filled (halves v) i (zeros 8))
 
 abbrev μ-loop : tie.MeasureT-loop
-μ-loop m counter block-len flags v next₀ i₀ next i = 8 - i
+μ-loop cv m counter block-len flags v next₀ i₀ next i = 8 - i
 
 loop-holds : tie.Need-loop-holds Inv-loop μ-loop
 unfolding filled
