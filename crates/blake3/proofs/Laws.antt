@@ -1,20 +1,20 @@
 -- Laws that the proofs cite.
 -- Assumes nothing.
 use mathlib.Core.Path.{_≡_, refl, sym, ap, ap₂, _∙_}
-use mathlib.Core.Bool.{Bool, true, false, _&&_}
-use mathlib.Core.List.{List, [], _∷_, _++_, map, append-assoc, append-nil}
+use mathlib.Core.Bool.{Bool, true, _&&_}
+use mathlib.Core.List.{List, [], _∷_, _++_, map, append-assoc}
 use Prim.Native.Nat.{ℕ, zero, suc, _+_, _-_, _*_, _/_, _%_, _^_, _≤_, _<_}
 use native.Mathlib.Numerals.{add-one}
 use native.Mathlib.Omega.{arith}
 use borrow.Author.Tests.{le-ltb, lt-ltb, ltb-true, eqb-true}
 use lib.Bits.{bitXor}
 use lib.Dec.{ltb, eqb}
-use lib.ListN.{length, getD, set, take, drop, replicate, length-take, length-drop}
+use lib.ListN.{length, getD, set, take, drop, length-drop}
 use lib.Seq.{take-all, take-length, drop-cons, take-suc, set-at, length-take-le, drop-drop}
 use Rattle.base.specs.Logic.{all, flat, from, fold, zeros}
 use Rattle.base.specs.Bytes.{le32, unle, digits, number}
 use Rattle.base.specs.Laws.{and-left, and-right}
-use Rattle.blake3.specs.Spec.{at, wrapAdd, rotr, mix, g, columns, diagonals, round, schedule, scheduled, rounds, iv, start, compress, blockWords, padded, chunkStart, chunkEnd, chain, chunk, parentOf, doubled, leftLen, tree}
+use Rattle.blake3.specs.Spec.{at, wrapAdd, rotr, mix, g, columns, diagonals, round, schedule, scheduled, rounds, iv, start, compress, blockWords, padded, chunkEnd, chain, chunk, parentOf, doubled, leftLen, tree}
 use Rattle.blake3.specs.Equations.{tree-chunk, tree-parent}
 
 -- ---- rounds
@@ -99,22 +99,24 @@ filled-more f k z p q = rw add-one (cc)
 
 -- the first k words of l, and as many of r from place 8
 unfoldable pub beside : List ℕ → List ℕ → ℕ → List ℕ
-beside l r zero = replicate 16 0
+beside l r zero = zeros 16
 beside l r (suc k) = set (set (beside l r k) k (at l k)) (k + 8) (at r k)
 
 pub beside-more : (l r : List ℕ) (k : ℕ) {t : List ℕ} → t ≡ beside l r k → set (set t k (at l k)) (k + 8) (at r k) ≡ beside l r (k + 1)
 unfolding beside
 beside-more l r k p = rw add-one (cc)
 
+-- the bytes of the word w, as word k of the bytes t
+abbrev pub spell : List ℕ → ℕ → ℕ → List ℕ
+spell t k w =
+    set (set (set (set t (4 * k) (w % 256)) (4 * k + 1) (w / 256 % 256)) (4 * k + 2) (w / 256 / 256 % 256)) (4 * k + 3) (w / 256 / 256 / 256 % 256)
+
 -- the bytes of the first k words
 unfoldable pub spelled : List ℕ → ℕ → List ℕ
-spelled ws zero = replicate 32 0
-spelled ws (suc k) =
-    let w = at ws k in
-    set (set (set (set (spelled ws k) (4 * k) (w % 256)) (4 * k + 1) (w / 256 % 256)) (4 * k + 2) (w / 256 / 256 % 256)) (4 * k + 3) (w / 256 / 256 / 256 % 256)
+spelled ws zero = zeros 32
+spelled ws (suc k) = spell (spelled ws k) k (at ws k)
 
-pub spelled-more : (ws : List ℕ) (k : ℕ) {t : List ℕ} → t ≡ spelled ws k
-    → set (set (set (set t (4 * k) (at ws k % 256)) (4 * k + 1) (at ws k / 256 % 256)) (4 * k + 2) (at ws k / 256 / 256 % 256)) (4 * k + 3) (at ws k / 256 / 256 / 256 % 256) ≡ spelled ws (k + 1)
+pub spelled-more : (ws : List ℕ) (k : ℕ) {t : List ℕ} → t ≡ spelled ws k → spell t k (at ws k) ≡ spelled ws (k + 1)
 unfolding spelled
 spelled-more ws k p = rw (add-one k, p)
 
