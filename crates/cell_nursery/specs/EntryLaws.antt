@@ -19,7 +19,8 @@ use Rattle.cell_nursery.specs.Entries.{Entry, Waiting, State, empty, cel
 use Rattle.cell_nursery.specs.Items.{Delta}
 use Rattle.cell_nursery.specs.Delta.{Room, used, full, stateAfter}
 use Rattle.cell_nursery.specs.Drain.{due, drained, lookup}
-use Rattle.base.specs.MoreLaws.{or-left, or-right, all-one, sum-keep, length-keep, all-keep, keep-ascending, keep-sorted}
+use Rattle.base.specs.ListLaws.{all-keep, ascending-keep}
+use Rattle.base.specs.SumLaws.{or-left, or-right, all-one, sum-keep, length-keep, keep-sorted}
 use Rattle.cell_nursery.specs.ItemLaws.{fitsItem, item-fits}
 use Rattle.cell_nursery.specs.LayoutLaws.{fitsWaiting, WellFormed}
 use Rattle.rows.specs.RowLaws.{put-one-ascending, put-one-sorted, all-put, sum-put, length-put, length-put-between, keep-absent}
@@ -181,7 +182,7 @@ module _ (e : Entry) (s : State) where
 module _ (h : ℕ) (s : State) where
   pub hashes-remove : ascending (map (λ e. e .hash) (s .entries)) ≡ true → ascending (map (λ e. e .hash) (remove h s .entries)) ≡ true
   unfolding remove
-  hashes-remove o = keep-ascending (λ e. not (eqb (e .hash) h)) (λ e. e .hash) 0 (s .entries) o
+  hashes-remove o = ascending-keep (λ e. e .hash) (λ e. not (eqb (e .hash) h)) 0 (s .entries) o
 
   pub rounds-remove : sortedFrom 0 (map (λ w. w .born) (s .waiting)) ≡ true → sortedFrom 0 (map (λ w. w .born) (remove h s .waiting)) ≡ true
   unfolding remove
@@ -213,9 +214,9 @@ unfolding remove
 well-remove h s w =
     record {
       hashes = hashes-remove h s (w .hashes);
-      entries = all-keep (λ e. not (eqb (e .hash) h)) fitsItem (s .entries) (w .entries);
+      entries = all-keep fitsItem (λ e. not (eqb (e .hash) h)) (s .entries) (w .entries);
       rounds = rounds-remove h s (w .rounds);
-      waiting = all-keep (λ x. not (eqb (x .hash) h)) fitsWaiting (s .waiting) (w .waiting);
+      waiting = all-keep fitsWaiting (λ x. not (eqb (x .hash) h)) (s .waiting) (w .waiting);
     }
 
 pub well-drained : (delay round : ℕ) (s : State) → WellFormed s → WellFormed (drained delay round s)
@@ -226,7 +227,7 @@ well-drained delay round s w =
       hashes = w .hashes;
       entries = w .entries;
       rounds = keep-sorted left (λ x. x .born) 0 (s .waiting) (w .rounds);
-      waiting = all-keep left fitsWaiting (s .waiting) (w .waiting);
+      waiting = all-keep fitsWaiting left (s .waiting) (w .waiting);
     }
 
 -- ---- a whole delta

@@ -16,7 +16,8 @@ use Rattle.base.specs.Laws.{length-digits, number-digits, digits-number, digit-
 use Rattle.rows.specs.Keys.{firstFour}
 use Rattle.cell_nursery.specs.Entries.{hashBytes}
 use Rattle.cell_nursery.specs.Layout.{HashWords, hashWords, hashOf, hashAt}
-use Rattle.base.specs.MoreLaws.{all-append, number-bound, number-append, digits-below}
+use Rattle.base.specs.ListLaws.{all-append}
+use Rattle.base.specs.NumberLaws.{number-below, number-append, digits-below}
 
 pub hash-words : (h : ℕ) → h < 2 ^ 256 → hashOf (hashWords h) ≡ h
 unfolding hashOf hashWords digits
@@ -55,7 +56,7 @@ module _ (w : HashWords) (u : Words64 w) where
 
   pub hash-small : hashOf w < 2 ^ 256
   unfolding hashOf
-  hash-small = number-bound (2 ^ 64) (w .fourth ∷ w .third ∷ w .second ∷ w .first ∷ []) small
+  hash-small = number-below (2 ^ 64) (w .fourth ∷ w .third ∷ w .second ∷ w .first ∷ []) small
 
 -- the words of a slice have 64 bits
 abbrev pub U64 : List ℕ → Type 0

@@ -21,7 +21,7 @@ use Rattle.cell_nursery.specs.declared.Nursery.{Nursery}
 use Rattle.cell_nursery.specs.Entries.{Entry, Waiting, cellBytes, putEntry, putWaiting, insert, remove}
 use Rattle.cell_nursery.specs.Drain.{lookup}
 use Rattle.cell_nursery.specs.Layout.{hashOf, hashAt, EntryRow, entryRow, WaitingRow, waitingRow, entryRowOf, entryOf, waitingRowOf, waiterOf, entryRows, cellsOf, entriesTable, waitingTable, cellsTable, entriesOf, waitingOf, stateOf}
-use Rattle.base.specs.MoreLaws.{sum-append}
+use Rattle.base.specs.SumLaws.{sum-append}
 use Rattle.rows.specs.RowLaws.{elem-miss, put-absent, keep-all, keep-hit, map-put}
 use Rattle.cell_nursery.specs.HashLaws.{words-hash, U64, u64-drop, words-at}
 use Rattle.cell_nursery.specs.EntryLaws.{lookup-entryAt, entryAt-hit, entryAt-miss, bytes-insert}

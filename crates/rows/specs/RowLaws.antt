@@ -16,7 +16,8 @@ use Rattle.rows.specs.Table.{Coding, rowsOf, tableOf, holdsRows}
 use Rattle.rows.specs.TableLaws.{rowsOf-table, laid-table, laid-holds, length-table}
 use Rattle.rows.specs.Keys.{keys, place, putRows}
 use Rattle.rows.specs.KeyLaws.{place-lt, place-ge, behind-hit, putRows-places}
-use Rattle.base.specs.MoreLaws.{or-left, or-right, all-append, all-map, all-if, sum-append, length-sum, ascending-append, sorted-append, all-keep, all-kept, keep-map, keep-ascending, keep-sorted}
+use Rattle.base.specs.ListLaws.{all-append, all-weaker, all-keep, all-kept, ascending-keep}
+use Rattle.base.specs.SumLaws.{or-left, or-right, all-map, sum-append, length-sum, ascending-append, sorted-append, keep-map, keep-sorted}
 
 -- the canonical table of n rows: it spells them, holds them, and has its length
 pub record IsTable {E : Type 0} (c : Coding E) (n len : ℕ) (es : List E) (t : List ℕ) : Type 0 where
@@ -82,7 +83,7 @@ module _ {E : Type 0} (key : E → ℕ) where
   from-ascending b lo (e ∷ es) o =
       let r = ascending-tail lo (key e) (map key es) o in
       elim (decLe b (key e)) [
-        | yes h ↦ rw (le-leb b (key e) h, le-leb b (key e) h) (keep-ascending (λ x. leb b (key x)) key (suc (key e)) es r)
+        | yes h ↦ rw (le-leb b (key e) h, le-leb b (key e) h) (ascending-keep key (λ x. leb b (key x)) (suc (key e)) es r)
         | no h ↦ rw (lt-leb b (key e) (omega arith)) (from-ascending b (suc (key e)) es r)
       ]
 
@@ -106,14 +107,14 @@ module _ {E : Type 0} (key : E → ℕ) where
     put-ascending o p l h =
         let under = all-map (λ x. ltb x lo) key (keep (λ e. ltb (key e) lo) es) ∙ all-kept (λ e. ltb (key e) lo) es in
         rw put-keys
-        (ascending-append 0 lo _ _ (omega arith) (keep-ascending (λ e. ltb (key e) lo) key 0 es o) under
+        (ascending-append 0 lo _ _ (omega arith) (ascending-keep key (λ e. ltb (key e) lo) 0 es o) under
         (ascending-append lo hi _ _ h p l (from-ascending hi 0 es o)))
 
     -- where new rows may stand behind those of the same key, m is their least key
     pub put-sorted : (m : ℕ) → sortedFrom 0 (map key es) ≡ true → sortedFrom m (map key new) ≡ true → all (λ x. leb x hi) (map key new) ≡ true → lo ≤ suc m → m ≤ hi
         → sortedFrom 0 (map key (putRows key lo hi new es)) ≡ true
     put-sorted m o p l h g =
-        let under = all-map (λ x. leb x m) key (keep (λ e. ltb (key e) lo) es) ∙ all-if (λ e. ltb (key e) lo) (λ e. leb (key e) m) (λ e q. le-leb (key e) m (omega (arith, ltb-true (key e) lo q))) _ (all-kept (λ e. ltb (key e) lo) es) in
+        let under = all-map (λ x. leb x m) key (keep (λ e. ltb (key e) lo) es) ∙ all-weaker (λ e. leb (key e) m) (λ e. ltb (key e) lo) (λ e q. le-leb (key e) m (omega (arith, ltb-true (key e) lo q))) _ (all-kept (λ e. ltb (key e) lo) es) in
         rw put-keys
         (sorted-append 0 m _ _ (omega arith) (keep-sorted (λ e. ltb (key e) lo) key 0 es o) under
         (sorted-append m hi _ _ g p l (from-sorted hi 0 es o)))
@@ -121,7 +122,7 @@ module _ {E : Type 0} (key : E → ℕ) where
     pub all-put : (q : E → Bool) → all q es ≡ true → all q new ≡ true → all q (putRows key lo hi new es) ≡ true
     unfolding putRows
     all-put q old fresh =
-        all-append q _ _ (all-keep (λ e. ltb (key e) lo) q es old) (all-append q _ _ fresh (all-keep (λ e. leb hi (key e)) q es old))
+        all-append q _ _ (all-keep q (λ e. ltb (key e) lo) es old) (all-append q _ _ fresh (all-keep q (λ e. leb hi (key e)) es old))
 
     sum-parts : (f : E → ℕ) → sumOf f (putRows key lo hi new es) ≡ sumOf f new + (sumOf f (keep (λ e. ltb (key e) lo) es) + sumOf f (keep (λ e. leb hi (key e)) es))
     unfolding putRows

@@ -5,26 +5,21 @@ use mathlib.Core.Bool.{true}
 use mathlib.Core.Option.{none, some}
 use mathlib.Core.List.{List, [], _∷_, _++_, reverse, reverse-append, reverse-reverse}
 use Prim.Native.Nat.{ℕ, zero, suc, _+_, _*_, _/_, _%_, _^_, _≤_, _<_}
-use native.Mathlib.Nat.{zero-add, suc-add, add-assoc, add-comm, mul-add, mul-assoc, mul-comm, pow-zero, pow-suc, pow-succ', div-one, div-div-eq-div-mul, mod-lt, one-le-pow}
+use native.Mathlib.Nat.{zero-add, suc-add, pow-zero, pow-suc, pow-succ', div-one, div-div-eq-div-mul, mod-lt, one-le-pow}
 use native.Mathlib.Numerals.{add-one}
 use native.Mathlib.Omega.{arith}
-use borrow.Author.Tests.{ltb-true, lt-ltb, le-leb, lt-leb}
-use lib.Arith.{mod-mul, digits-div, digits-mod, digits-lt}
+use borrow.Author.Tests.{lt-ltb, le-leb, lt-leb}
+use lib.Arith.{mod-mul, digits-div, digits-mod}
 use lib.Dec.{ltb}
 use lib.ListN.{length, getD, set, take, drop, length-drop, length-reverse}
 use lib.Seq.{paste, take-all, getD-take, getD-drop, drop-drop, drop-cons}
 use Rattle.base.specs.Logic.{all}
 use Rattle.base.specs.Bytes.{digits, number, unle, unbe, be, cut, readLe}
-use Rattle.base.specs.Laws.{and-left, and-right, and-both, length-digits, number-digits, digits-number}
+use Rattle.base.specs.Laws.{and-both, length-digits, number-digits, digits-number}
+use Rattle.base.specs.NumberLaws.{number-append}
 use Rattle.slices.specs.Laws.{part-split, length-part, part-paste, paste-append, paste-two}
 
 -- ---- digits end to end
-
-pub number-append : (b : ℕ) (xs ys : List ℕ) → number b (xs ++ ys) ≡ number b xs + b ^ length xs * number b ys
-unfolding number
-number-append b [] ys = rw (pow-zero b) (omega arith)
-number-append b (x ∷ xs) ys =
-    rw (number-append b xs ys, mul-add b (number b xs), pow-succ' b (length xs), mul-assoc b (b ^ length xs), add-assoc x)
 
 pub digits-append : (b j k n : ℕ) → digits b (j + k) n ≡ digits b j n ++ digits b k (n / b ^ j)
 unfolding digits
@@ -46,14 +41,6 @@ length-be k n = length-reverse (digits 256 k n) ∙ length-digits 256 k n
 
 pub be-append : (j k n : ℕ) → be (j + k) n ≡ be k (n / 256 ^ j) ++ be j n
 be-append j k n = rw (digits-append 256 j k n) (reverse-append (digits 256 j n) (digits 256 k (n / 256 ^ j)))
-
--- digits below the base spell a number below its power
-pub number-below : (b : ℕ) (xs : List ℕ) → all (λ x. ltb x b) xs ≡ true → number b xs < b ^ length xs
-unfolding number all
-number-below b [] e = rw (pow-zero b) (omega arith)
-number-below b (x ∷ xs) e =
-    let h : x < b = ltb-true x b (and-left (ltb x b) (all (λ y. ltb y b) xs) e) in
-    rw (pow-suc b (length xs), add-comm x, mul-comm b) (digits-lt (number-below b xs (and-right (ltb x b) (all (λ y. ltb y b) xs) e)) h)
 
 -- as many digits that spell the same number are the same
 pub number-same : (b : ℕ) (xs ys : List ℕ) → all (λ x. ltb x b) xs ≡ true → all (λ x. ltb x b) ys ≡ true → length xs ≡ length ys → number b xs ≡ number b ys

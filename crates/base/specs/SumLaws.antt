@@ -1,4 +1,4 @@
--- Laws of numbers and lists that speak of no nursery.
+-- Sums over lists, lists in order put together, and what is kept of a list and what is not.
 -- Assumes nothing.
 use mathlib.Core.Path.{_≡_, refl, ap}
 use mathlib.Core.Bool.{Bool, true, false, not, _||_}
@@ -10,31 +10,7 @@ use lib.ListN.{length}
 use lib.Dec.{leb, ltb}
 use borrow.Author.Tests.{ltb-true, leb-true, lt-ltb, le-leb}
 use Rattle.base.specs.Logic.{pick, all, keep, sumOf, ascendingFrom, sortedFrom}
-use Rattle.base.specs.Bytes.{digits, number}
 use Rattle.base.specs.Laws.{and-left, and-right, and-both, sorted-head, sorted-tail, sorted-lower, ascending-head, ascending-tail, ascending-lower}
-
--- k digits spell a number below b ^ k
-pub number-bound : (b : ℕ) (xs : List ℕ) → all (λ x. ltb x b) xs ≡ true → number b xs < b ^ length xs
-unfolding number all
-number-bound b [] e = rw (pow-zero b) (omega arith)
-number-bound b (x ∷ xs) e =
-    let h : x < b = ltb-true x b (and-left _ _ e) in
-    let l : suc (number b xs) ≤ b ^ length xs = number-bound b xs (and-right (ltb x b) _ e) in
-    let m : b * suc (number b xs) ≤ b * b ^ length xs = mul-le-mul-left b l in
-    rw (pow-succ' b (length xs)) (omega (arith, mul-suc b (number b xs)))
-
--- the number that digits spell in two parts
-pub number-append : (b : ℕ) (xs ys : List ℕ) → number b (xs ++ ys) ≡ number b xs + b ^ length xs * number b ys
-unfolding number
-number-append b [] ys = rw (pow-zero b) (omega arith)
-number-append b (x ∷ xs) ys =
-    rw (number-append b xs ys, pow-succ' b (length xs), mul-add b (number b xs) (b ^ length xs * number b ys), mul-assoc b (b ^ length xs) (number b ys)) (omega arith)
-
--- digits are below the base
-pub digits-below : (b k n : ℕ) → 0 < b → all (λ x. ltb x b) (digits b k n) ≡ true
-unfolding digits all
-digits-below b zero n p = refl
-digits-below b (suc k) n p = rw (lt-ltb (n % b) b (mod-lt n p)) (digits-below b k (n / b) p)
 
 -- ---- neither test passes where their disjunction doesn't
 pub or-left : (a b : Bool) → (a || b) ≡ false → a ≡ false
@@ -50,16 +26,6 @@ module _ {A : Type 0} where
   pub all-one : (q : A → Bool) (x : A) → q x ≡ true → all q (x ∷ []) ≡ true
   unfolding all
   all-one q x e = rw e
-
-  pub all-append : (q : A → Bool) (xs ys : List A) → all q xs ≡ true → all q ys ≡ true → all q (xs ++ ys) ≡ true
-  unfolding all
-  all-append q [] ys e f = f
-  all-append q (x ∷ xs) ys e f = and-both (q x) _ (and-left (q x) _ e) (all-append q xs ys (and-right (q x) _ e) f)
-
-  pub all-if : (p q : A → Bool) → ((x : A) → p x ≡ true → q x ≡ true) → (xs : List A) → all p xs ≡ true → all q xs ≡ true
-  unfolding all
-  all-if p q f [] e = refl
-  all-if p q f (x ∷ xs) e = rw (f x (and-left (p x) _ e)) (all-if p q f xs (and-right (p x) _ e))
 
   pub all-map : {B : Type 0} (q : B → Bool) (f : A → B) (xs : List A) → all q (map f xs) ≡ all (λ x. q (f x)) xs
   unfolding all
@@ -95,23 +61,6 @@ sorted-append lo b (x ∷ xs) ys h o l p =
 
 -- ---- what is kept of a list
 module _ {A : Type 0} (p : A → Bool) where
-  pub all-keep : (q : A → Bool) (xs : List A) → all q xs ≡ true → all q (keep p xs) ≡ true
-  unfolding all keep
-  all-keep q [] e = refl
-  all-keep q (x ∷ xs) e =
-      let rest = all-keep q xs (and-right (q x) _ e) in
-      elim (p x) as (λ b. all q (pick b (x ∷ keep p xs) (keep p xs)) ≡ true) [ true ↦ and-both (q x) _ (and-left (q x) _ e) rest | false ↦ rest ]
-
-  -- it passes the test
-  pub all-kept : (xs : List A) → all p (keep p xs) ≡ true
-  unfolding all keep
-  all-kept [] = refl
-  all-kept (x ∷ xs) = go (p x) refl (all-kept xs)
-    where
-      go : (b : Bool) → p x ≡ b → all p (keep p xs) ≡ true → all p (pick b (x ∷ keep p xs) (keep p xs)) ≡ true
-      go true e r = and-both _ _ e r
-      go false e r = r
-
   -- the sum over what is kept and over what is not
   pub sum-keep : (f : A → ℕ) (xs : List A) → sumOf f (keep p xs) + sumOf f (keep (λ x. not (p x)) xs) ≡ sumOf f xs
   unfolding sumOf keep
@@ -138,17 +87,6 @@ module _ {A : Type 0} (p : A → Bool) where
 
   -- it stays in order
   module _ (key : A → ℕ) where
-    pub keep-ascending : (lo : ℕ) (xs : List A) → ascendingFrom lo (map key xs) ≡ true → ascendingFrom lo (map key (keep p xs)) ≡ true
-    unfolding ascendingFrom keep
-    keep-ascending lo [] o = refl
-    keep-ascending lo (x ∷ xs) o =
-        let rest = keep-ascending (suc (key x)) xs (ascending-tail lo (key x) (map key xs) o) in
-        let h = ascending-head lo (key x) (map key xs) o in
-        elim (p x) as (λ b. ascendingFrom lo (map key (pick b (x ∷ keep p xs) (keep p xs))) ≡ true) [
-          | true ↦ and-both _ _ (le-leb lo (key x) h) rest
-          | false ↦ ascending-lower lo (suc (key x)) (map key (keep p xs)) (omega arith) rest
-        ]
-
     pub keep-sorted : (lo : ℕ) (xs : List A) → sortedFrom lo (map key xs) ≡ true → sortedFrom lo (map key (keep p xs)) ≡ true
     unfolding sortedFrom keep
     keep-sorted lo [] o = refl
