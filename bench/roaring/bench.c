@@ -15,9 +15,10 @@ size_t roaring_write(uint8_t *out, size_t room, const uint64_t *t, size_t len, s
 
 enum { N = 1000000, TURNS = 51, WAYS = 8 };
 
+// processor time, so that what else the machine does counts little
 static double now(void) {
     struct timespec t;
-    clock_gettime(CLOCK_MONOTONIC, &t);
+    clock_gettime(CLOCK_PROCESS_CPUTIME_ID, &t);
     return t.tv_sec * 1e6 + t.tv_nsec * 1e-3;
 }
 
@@ -82,7 +83,7 @@ static void run(const char *name, uint32_t step) {
         "proved: write from rows", "CRoaring: write what is in memory", "CRoaring: build from sorted values and write", "proved: check",
         "CRoaring: read into memory", "proved: go through", "CRoaring: go through by callback", "CRoaring: go through by iterator",
     };
-    printf("%s, %zu bytes, microseconds (median of %d)\n", name, len, TURNS);
+    printf("%s, %zu bytes, microseconds of processor time (median of %d)\n", name, len, TURNS);
     for (int w = 0; w < WAYS; w++) {
         qsort(took[w], TURNS, sizeof(double), order);
         printf("  %-45s %9.0f\n", ways[w], took[w][TURNS / 2]);
