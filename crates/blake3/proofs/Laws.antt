@@ -14,7 +14,7 @@ use lib.Seq.{take-all, take-length, drop-cons, take-suc, set-at, length-take-le,
 use Rattle.base.specs.Logic.{all, flat, from, fold, zeros}
 use Rattle.base.specs.Bytes.{le32, unle, digits, number}
 use Rattle.base.specs.Laws.{and-left, and-right}
-use Rattle.blake3.specs.Spec.{at, wrapAdd, rotr, mix, g, columns, diagonals, round, schedule, scheduled, rounds, iv, start, compress, blockWords, padded, chunkEnd, chain, chunk, parentOf, doubled, leftLen, tree}
+use Rattle.blake3.specs.Spec.{at, wrapAdd, rotr, mix, g, columns, diagonals, round, schedule, scheduled, rounds, iv, start, compress, blockWords, padded, chunkEnd, chain, chunk, parent, root, parentOf, doubled, leftLen, tree, hashWith, hash}
 use Rattle.blake3.specs.Equations.{tree-chunk, tree-parent}
 
 -- ---- rounds
@@ -28,6 +28,11 @@ pub four-stores : (a b c d x n k : ℕ) (v : List ℕ) {s sx rd sc rb : ℕ}
     → set (set (set (set v a sx) d rd) c sc) b rb ≡ mix a b c d x n k v
 unfolding mix
 four-stores a b c d x n k v p q r s t = cc
+
+-- the two halves of a quarter round
+pub two-halves : (a b c d x y : ℕ) (v : List ℕ) {u w : List ℕ} → u ≡ mix a b c d x 16 12 v → w ≡ mix a b c d y 8 7 u → w ≡ g a b c d x y v
+unfolding g
+two-halves a b c d x y v p q = q ∙ ap (mix a b c d y 8 7) p
 
 -- the four quarter rounds of half a round
 pub four-columns : (w : ℕ → ℕ) (v : List ℕ) {w0 w1 w2 w3 w4 w5 w6 w7 : ℕ} {v0 v1 v2 v3 : List ℕ}
@@ -259,6 +264,12 @@ module _ (flags top counter first : ℕ) (cv s : List ℕ) (i : ℕ) where
 
 -- ---- the tree
 
+-- a parent of two children
+pub of-children : (key : List ℕ) (flags top : ℕ) (l r : List ℕ) {m v : List ℕ} → m ≡ l ++ r
+    → v ≡ compress key m 0 64 (flags + parent + top) → v ≡ parentOf key flags top l r
+unfolding parentOf
+of-children key flags top l r p q = q ∙ ap (λ (m : List ℕ). compress key m 0 64 (flags + parent + top)) p
+
 -- what is left of a list from k on, as a part from k to the end
 pub rest : (bs : List ℕ) (k : ℕ) → take (length bs - k) (drop k bs) ≡ drop k bs
 rest bs k = take-all (length bs - k) (drop k bs) (omega (arith, length-drop k bs))
@@ -274,3 +285,8 @@ pub parent-tree : (key : List ℕ) (flags top counter : ℕ) (bs : List ℕ) {k 
 parent-tree key flags top counter bs {k} h e p q u =
     let w = tree-parent key flags top counter bs h in
     cc (w, rest bs k)
+
+-- the bytes of the root
+pub hashed : (bs : List ℕ) {v r : List ℕ} → v ≡ tree iv 0 root 0 bs → r ≡ flat le32 v → r ≡ hash bs
+unfolding hash hashWith
+hashed bs p q = q ∙ ap (flat le32) p
