@@ -113,7 +113,7 @@ pub fn holds_rows(t: &[u64], w: usize, n: usize) -> bool
     if t.len() / w < n {
         return false;
     }
-    slices::words::zero_from(t, n * w)
+    word_slices::zero_from(t, n * w)
 }
 
 // The row goes in at index `at`: the words from there to `end` move up, over as many words behind `end`.
@@ -121,8 +121,8 @@ pub fn insert_row(t: &mut [u64], at: usize, end: usize, row: &[u64])
     requires { ⌜ (at ≤ end) × (end + length (now row) ≤ length (now t)) ⌝ }
     ensures { λ _. ⌜ now (t .exit) ≡ take at (now (t .entry)) ++ (now (row .entry) ++ (take (end - at) (drop at (now (t .entry))) ++ drop (end + length (now (row .entry))) (now (t .entry)))) ⌝ }
 {
-    slices::words::move_up(t, at, at + row.len(), end - at);
-    slices::words::copy_at(t, at, row);
+    word_slices::move_up(t, at, at + row.len(), end - at);
+    word_slices::copy_at(t, at, row);
 }
 
 // The w words at index `at` go: the words behind them to `end` move down, and zeros take the places that this frees.
@@ -130,6 +130,6 @@ pub fn remove_row(t: &mut [u64], at: usize, end: usize, w: usize)
     requires { ⌜ (at + w ≤ end) × (end ≤ length (now t)) ⌝ }
     ensures { λ _. ⌜ now (t .exit) ≡ take at (now (t .entry)) ++ (take (end - (at + w)) (drop (at + w) (now (t .entry))) ++ (zeros w ++ drop end (now (t .entry)))) ⌝ }
 {
-    slices::words::move_down(t, at + w, at, end - (at + w));
-    slices::words::fill(t, end - w, w, 0);
+    word_slices::move_down(t, at + w, at, end - (at + w));
+    word_slices::fill(t, end - w, w, 0);
 }

@@ -1,3 +1,4 @@
--- For this crate's proofs and for its callers'. `Laws`: pastes, parts and comparisons. `NumberLaws`: numbers in bytes.
+-- `Laws`: pastes, parts and comparisons. `Turns`: a turn of each loop over a slice. `NumberLaws`: numbers in bytes.
 pub mod Laws
+pub mod Turns
 pub mod NumberLaws

@@ -1,2 +1,0 @@
--- `Turns`: a turn of each loop, and its end, over lists of any items.
-pub mod Turns
