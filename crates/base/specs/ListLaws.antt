@@ -2,7 +2,7 @@
 -- Assumes nothing.
 use mathlib.Core.Path.{_≡_, refl, sym, ap, ap₂, _∙_}
 use mathlib.Core.Logic.{_↔_, _⊎_, inl, inr}
-use mathlib.Core.Bool.{Bool, true, false, _||_, true≢false, false≢true}
+use mathlib.Core.Bool.{Bool, true, false, not, _||_, true≢false, false≢true}
 use mathlib.Core.List.{List, [], _∷_, _++_, map, Permᴰ·map, Permᴰ·refl}
 use mathlib.Core.List.{List·Permᴰ as Reordered, List·Permᴰ·nil as order-nil, List·Permᴰ·cons as order-cons, List·Permᴰ·swap as order-swap, List·Permᴰ·trans as order-trans}
 use Prim.Native.Nat.{ℕ, suc, _+_, _≤_, _<_}
@@ -222,6 +222,29 @@ module _ {A : Type 0} where
   -- as many items pass a test
   pub count-order : {xs ys : List A} (p : A → Bool) → Reordered xs ys → length (keep p xs) ≡ length (keep p ys)
   count-order p r = length-order (keep-order p r)
+
+module _ {A : Type 0} where
+  -- an item in front of a list may stand anywhere in it
+  pub middle-order : (x : A) (xs ys : List A) → Reordered (x ∷ (xs ++ ys)) (xs ++ (x ∷ ys))
+  middle-order x [] ys = Permᴰ·refl (x ∷ ys)
+  middle-order x (y ∷ xs) ys = order-trans (order-swap refl refl) (order-cons refl (middle-order x xs ys))
+
+  -- the items that fail a test, and then those that pass it
+  pub split-order : (p : A → Bool) (xs : List A) → Reordered xs (keep (λ x. not (p x)) xs ++ keep p xs)
+  unfolding keep
+  split-order p [] = order-nil
+  split-order p (x ∷ xs) = go (p x) (split-order p xs)
+    where
+      go : (b : Bool) → Reordered xs (keep (λ y. not (p y)) xs ++ keep p xs)
+          → Reordered (x ∷ xs) (pick (not b) (x ∷ keep (λ y. not (p y)) xs) (keep (λ y. not (p y)) xs) ++ pick b (x ∷ keep p xs) (keep p xs))
+      go true r = order-trans (order-cons refl r) (middle-order x (keep (λ y. not (p y)) xs) (keep p xs))
+      go false r = order-cons refl r
+
+  -- a list gone through in two parts
+  pub fold-append : {B : Type 0} (f : A → B → B) (xs ys : List A) (b : B) → fold f (xs ++ ys) b ≡ fold f ys (fold f xs b)
+  unfolding fold
+  fold-append f [] ys b = refl
+  fold-append f (x ∷ xs) ys b = fold-append f xs ys (f x b)
 
 pub repeated-order : {xs ys : List ℕ} → Reordered xs ys → repeated xs ≡ repeated ys
 unfolding repeated any

@@ -9,9 +9,9 @@ use lib.Dec.{leb, ltb}
 use lib.ListN.{length, drop}
 use borrow.Author.Tests.{le-leb, lt-leb, le-ltb, lt-ltb, leb-true, leb-false}
 use native.Mathlib.Decide.{decLt}
-use Rattle.base.specs.Logic.{pick, all, keep, fold, ascendingFrom}
+use Rattle.base.specs.Logic.{pick, all, keep, fold, repeated, ascendingFrom}
 use Rattle.base.specs.Laws.{and-left, and-right}
-use Rattle.base.specs.ListLaws.{all-kept, all-keep}
+use Rattle.base.specs.ListLaws.{all-kept, split-order, fold-append}
 use Rattle.rows.specs.Table.{rowsOf, tableOf}
 use Rattle.rows.specs.TableLaws.{rowsOf-table, laid-table}
 use Rattle.rows.specs.Keys.{keys, firstWord, place}
@@ -19,12 +19,13 @@ use Rattle.rows.specs.OrderLaws.{putRows-ascending}
 use Rattle.counters.specs.declared.CounterTransition.{CounterTransition}
 use Rattle.counters.specs.Counts.{Entry, rowOf, setCount}
 use Rattle.counters.specs.Layout.{countRow}
-use Rattle.counters.specs.Batch.{changes, kept, countsAfter}
+use Rattle.counters.specs.Batch.{changes, kept, named, countsAfter}
 use Rattle.counters.specs.Steps.{transition, leavesRow, some, applyOne}
 use Rattle.counters.specs.Held.{InOrder}
 use Rattle.counters.specs.RowLaws.{indices}
 use Rattle.counters.specs.SetLaws.{set-grows, set-shrinks}
 use Rattle.counters.specs.CountLaws.{row-within, row-ascending}
+use Rattle.counters.specs.BatchLaws.{countsAfter-order}
 
 abbrev Ascends : List Entry → Type 0
 Ascends es = ascendingFrom 0 (map (λ e. e .idx) es) ≡ true
@@ -163,3 +164,11 @@ module _ (many : Bool) (x : CounterTransition) (es : List Entry) where
 pub some-none : (many : Bool) (es : List Entry) → countsAfter (some many []) es ≡ es
 unfolding some kept keep countsAfter fold
 some-none many es = refl
+
+-- ---- first those that leave no row, then those that leave one: together they are the batch
+pub two-passes : (ts : List CounterTransition) (es : List Entry) → repeated (named (kept ts)) ≡ false
+    → countsAfter (some true ts) (countsAfter (some false ts) es) ≡ countsAfter (kept ts) es
+unfolding some countsAfter
+two-passes ts es once =
+    sym (countsAfter-order (split-order (leavesRow true) (kept ts)) es once
+    ∙ fold-append (λ t. setCount (t .idx .0) (t .«new_raw»)) (keep (leavesRow false) (kept ts)) (keep (leavesRow true) (kept ts)) es)

@@ -22,7 +22,8 @@ use Rattle.rows.specs.TableLaws.{length-rowsOf}
 use Rattle.counters.specs.declared.Counters.{Counters}
 use Rattle.counters.specs.declared.CounterMaintenance.{CounterMaintenance}
 use Rattle.counters.specs.Counts.{Entry, smallCode, inSet, members}
-use Rattle.counters.specs.Maintenance.{Settings, standard, adjustShrinkThreshold, setMinimum, shouldShrink, setsShrink, resetWhere, decide, shrunk}
+use Rattle.counters.specs.declared.CounterTransition.{CounterTransition}
+use Rattle.counters.specs.Maintenance.{Settings, standard, adjustShrinkThreshold, setMinimum, shouldShrink, setsShrink, resetWhere, decide, shrunk, grown, grownSets, clears}
 use Rattle.counters.specs.Layout.{countRow, withMaintenance, stateOf, holds}
 use Rattle.counters.specs.Calls.{onState, decided, shrinkCall}
 use Rattle.counters.specs.RowLaws.{rowAt, from-row}
@@ -203,3 +204,19 @@ module _ (c : Counters) (t : List ℕ) (saved : ℕ) where
       → record { answer = Taken; alive = alive; small = small; counters = withMaintenance c m } ≡ shrinkCall standard c t saved
   unfolding shrinkCall decided onState decide stateOf
   shrink-held alive small m h a s e = rw (h, length-rowsOf countRow (c .stored) t, e, a, s)
+
+-- ---- the sets' removal counts after kept transitions
+module _ (ts : List CounterTransition) where
+  pub length-grown : (k : ℕ) (rs : List ℕ) → length (grownSets ts k rs) ≡ length rs
+  unfolding grownSets
+  length-grown k [] = refl
+  length-grown k (r ∷ rs) = ap suc (length-grown (suc k) rs)
+
+  grown-from : (k : ℕ) (rs : List ℕ) (i : ℕ) → i < length rs → getD (grownSets ts k rs) i 0 ≡ grown (getD rs i 0) (length (keep (clears (k + i)) ts))
+  unfolding grownSets
+  grown-from k [] i h = absurd (omega arith)
+  grown-from k (r ∷ rs) zero h = ap (λ (j : ℕ). grown r (length (keep (clears j) ts))) (omega arith)
+  grown-from k (r ∷ rs) (suc i) h = grown-from (suc k) rs i (omega arith) ∙ ap (λ (j : ℕ). grown (getD rs i 0) (length (keep (clears j) ts))) (omega arith)
+
+  pub grown-at : (rs : List ℕ) (i : ℕ) → i < length rs → getD (grownSets ts 0 rs) i 0 ≡ grown (getD rs i 0) (length (keep (clears i) ts))
+  grown-at rs i h = grown-from 0 rs i h ∙ rw (zero-add i)

@@ -1,0 +1,224 @@
+// Maintenance: which sets a count is in, the removal counts, and when to shrink.
+use base::Answer;
+use base::Refusal;
+use counters::CounterMaintenance;
+use counters::Counters;
+use counters::Shrunk;
+ghost use mathlib.Core.Path.{_≡_};
+ghost use mathlib.Core.Bool.{true};
+ghost use Prim.Native.Nat.{_*_, _≤_};
+ghost use lib.ListN.{length};
+ghost use Rattle.base.specs.Logic.{pick};
+ghost use Rattle.rows.specs.Table.{rowsOf};
+ghost use Rattle.counters.specs.Counts as counts;
+ghost use Rattle.counters.specs.Counts.{inSet};
+ghost use Rattle.counters.specs.Layout.{countRow};
+ghost use Rattle.counters.specs.Layout as layout;
+ghost use Rattle.counters.specs.Calls.{shrinkCall};
+ghost use Rattle.counters.specs.Maintenance as maintenance;
+ghost use Rattle.counters.specs.Maintenance.{standard, setMinimum, shouldShrink, adjustShrinkThreshold, setsShrink, resetWhere, shrunk};
+ghost use Rattle.counters.specs.MaintenanceLaws.{adjusted};
+
+// A removal count stops here.
+const MAX64: u64 = 0xffff_ffff_ffff_ffff;
+
+// The alive threshold starts here, and starts again after a good save.
+const BASE: u64 = 131_072;
+
+// The alive threshold doubles up to this.
+const MOST: u64 = 2_097_152;
+
+// From so many bytes saved on, a save is good.
+const GOOD_SAVE: u64 = 1_048_576;
+
+// A set doesn't shrink before so many removals.
+const SET_MINIMUM: u64 = 65_536;
+
+// Whether set k has an index with the count n. A count from 2 to 256 lies as count - 1 over eight sets.
+pub fn in_set(k: u32, n: u64) -> bool
+    ensures { λ r. ⌜ r ≡ inSet k n ⌝ }
+{
+    if n < 2 {
+        return false;
+    }
+    if 256 < n {
+        return false;
+    }
+    if 8 <= k {
+        return false;
+    }
+    ((n - 1) >> k) % 2 == 1
+}
+
+// A removal count grown by n; it stops at the largest number.
+pub fn grown(removed: u64, n: u64) -> u64
+    ensures { λ r. ⌜ r ≡ maintenance.grown removed n ⌝ }
+{
+    if MAX64 - removed < n {
+        return MAX64;
+    }
+    removed + n
+}
+
+// Whether to shrink what holds alive items. 3 × removed could be too large a number, so a third of alive is compared.
+pub fn should_shrink(alive: u64, removed_since_shrink: u64, min_removed: u64) -> bool
+    ensures { λ r. ⌜ r ≡ shouldShrink alive «removed_since_shrink» «min_removed» ⌝ }
+{
+    if removed_since_shrink == 0 {
+        return false;
+    }
+    if alive == 0 {
+        return true;
+    }
+    if removed_since_shrink < min_removed {
+        return false;
+    }
+    (alive - 1) / 3 < removed_since_shrink
+}
+
+// The alive threshold after a shrink that saved some bytes.
+fn threshold_after(threshold: u64, saved: u64) -> u64
+    ensures { λ r. ⌜ r ≡ adjustShrinkThreshold standard saved threshold ⌝ }
+{
+    if GOOD_SAVE <= saved {
+        return BASE;
+    }
+    if MOST / 2 < threshold {
+        return MOST;
+    }
+    threshold * 2
+}
+
+// After an alive shrink that saved some bytes: only the threshold moves.
+pub fn adjust_shrink_threshold(mut m: CounterMaintenance, bytes_saved: u64) -> CounterMaintenance
+    ensures { λ r. ⌜ r ≡ adjusted standard «bytes_saved» m ⌝ }
+{
+    m.min_alive_removed_before_shrink = threshold_after(
+        m.min_alive_removed_before_shrink,
+        bytes_saved,
+    );
+    m
+}
+
+// How many of the first n counts are in set k: a pass over the table.
+pub fn members(t: &[u64], n: usize, k: u32) -> u64
+    requires { ⌜ n * 2 ≤ length (now t) ⌝ }
+    ensures { λ r. ⌜ r ≡ length (counts.members k (rowsOf countRow n (now (t .entry)))) ⌝ }
+{
+    let mut found = 0;
+    let mut i = 0;
+    while i < n {
+        if in_set(k, t[i * 2 + 1]) {
+            found += 1;
+        }
+        i += 1;
+    }
+    found
+}
+
+// Whether set k shrinks. Where nothing was removed it doesn't, and its members aren't counted.
+fn should_shrink_set(t: &[u64], n: usize, k: u32, removed: u64) -> bool
+    requires { ⌜ n * 2 ≤ length (now t) ⌝ }
+    ensures { λ r. ⌜ r ≡ shouldShrink (length (counts.members k (rowsOf countRow n (now (t .entry))))) removed setMinimum ⌝ }
+{
+    if removed == 0 {
+        return false;
+    }
+    should_shrink(members(t, n, k), removed, SET_MINIMUM)
+}
+
+// Which of the eight sets shrink, by their removal counts.
+fn sets_shrink(t: &[u64], n: usize, removed: [u64; 8]) -> [bool; 8]
+    requires { ⌜ n * 2 ≤ length (now t) ⌝ }
+    ensures { λ r. ⌜ r ≡ setsShrink (rowsOf countRow n (now (t .entry))) 0 removed ⌝ }
+{
+    let mut small = [false; 8];
+    let mut k = 0;
+    while k < 8 {
+        small[k] = should_shrink_set(t, n, k as u32, removed[k]);
+        k += 1;
+    }
+    small
+}
+
+// A removal count after a decision: a yes sets it to 0.
+fn left_after(yes: bool, removed: u64) -> u64
+    ensures { λ r. ⌜ r ≡ pick yes 0 removed ⌝ }
+{
+    if yes {
+        return 0;
+    }
+    removed
+}
+
+// The removal counts of the eight sets after their decisions.
+fn reset_where(small: [bool; 8], removed: [u64; 8]) -> [u64; 8]
+    ensures { λ r. ⌜ r ≡ resetWhere small removed ⌝ }
+{
+    let mut left = [0; 8];
+    let mut k = 0;
+    while k < 8 {
+        left[k] = left_after(small[k], removed[k]);
+        k += 1;
+    }
+    left
+}
+
+// Maintenance after the decisions. A yes sets its removal count to 0, and the threshold moves after an alive yes only.
+fn maintenance_after(
+    m: CounterMaintenance,
+    alive: bool,
+    small: [bool; 8],
+    saved: u64,
+) -> CounterMaintenance
+    ensures { λ r. ⌜ r ≡ shrunk standard saved (record { alive = alive; small = small }) m ⌝ }
+{
+    let removed = m.small_removed_since_shrink;
+    let left = reset_where(small, removed);
+    let mut after = m;
+    after.alive_removed_since_shrink = left_after(alive, m.alive_removed_since_shrink);
+    after.small_removed_since_shrink = left;
+    if alive {
+        return adjust_shrink_threshold(after, saved);
+    }
+    after
+}
+
+// The shrink decisions over a table that holds a state, and the record after them.
+pub fn shrink_held(c: Counters, t: &[u64], saved: u64) -> Shrunk
+    requires { ⌜ layout.holds c (now t) ≡ true ⌝ }
+    ensures { λ r. ⌜ r ≡ shrinkCall standard c (now (t .entry)) saved ⌝ }
+{
+    let n = c.stored;
+    let m = c.maintenance;
+    let removed = m.small_removed_since_shrink;
+    let small = sets_shrink(t, n, removed);
+    let alive = should_shrink(
+        n as u64,
+        m.alive_removed_since_shrink,
+        m.min_alive_removed_before_shrink,
+    );
+    let mut counters = c;
+    counters.maintenance = maintenance_after(m, alive, small, saved);
+    Shrunk {
+        answer: Answer::Taken,
+        alive,
+        small,
+        counters,
+    }
+}
+
+// The shrink decisions, over a table that is checked first. saved is the bytes that the alive shrink saves.
+pub fn shrink_if_needed(c: Counters, t: &[u64], saved: u64) -> Shrunk
+    ensures { λ r. ⌜ r ≡ shrinkCall standard c (now (t .entry)) saved ⌝ }
+{
+    if !counter_table::holds(c, t) {
+        return Shrunk {
+            answer: Answer::Refused(Refusal::Broken),
+            alive: false,
+            small: [false; 8],
+            counters: c,
+        };
+    }
+    shrink_held(c, t, saved)
+}

@@ -1,0 +1,131 @@
+-- A batch judged test after test, on a table that holds a state; and what it leaves where every test is passed.
+-- Assumes nothing.
+use mathlib.Core.Path.{_≡_, refl, sym, ap, _∙_}
+use mathlib.Core.Bool.{Bool, true, false, _||_}
+use mathlib.Core.List.{List, map}
+use Prim.Native.Nat.{ℕ, _+_, _-_, _*_, _/_, _%_, _^_, _≤_, _<_}
+use native.Mathlib.Omega.{arith}
+use lib.Dec.{leb, ltb, eqb}
+use lib.ListN.{length}
+use borrow.Author.Tests.{eq-eqb, ne-eqb, le-ltb, ltb-false}
+use Rattle.base.specs.Logic.{any, keep, repeated, max64}
+use Rattle.base.specs.ListLaws.{or-false}
+use Rattle.base.specs.SumLaws.{length-keep}
+use Rattle.base.specs.Answers.{Outcome, refused, taken}
+use Rattle.base.specs.declared.Refusal.{Refusal}
+use Rattle.base.specs.declared.Answer.the-variants.{Taken, Refused}
+use Rattle.base.specs.declared.Refusal.the-variants.{Unallocated, Repeated, OffTotal, FalseOld, TableFull, Broken}
+use Rattle.rows.specs.Table.{rowsOf}
+use Rattle.rows.specs.TableLaws.{length-rowsOf}
+use Rattle.counters.specs.declared.Counters.{Counters}
+use Rattle.counters.specs.declared.CounterTransition.{CounterTransition}
+use Rattle.counters.specs.Counts.{Entry, State}
+use Rattle.counters.specs.Maintenance.{rises, falls}
+use Rattle.counters.specs.Batch.{changes, birth, death, kept, named, unallocated, falseOld, births, deaths, offTotal, countsAfter, stateAfter, applyKept, applyBatch}
+use Rattle.counters.specs.Layout.{countRow, transitionRow, roomOf, recordOf, tableOf, stateOf, holds, batchOf}
+use Rattle.counters.specs.LayoutLaws.{held}
+use Rattle.counters.specs.Calls.{changed, onState, laidOut, laid, batchCall}
+use Rattle.counters.specs.Steps.{transitions}
+use Rattle.counters.specs.BatchLaws.{length-countsAfter}
+use Rattle.counters.specs.CallLaws.{batch-held}
+
+-- how many kept transitions pass a test: at most as many as there are
+pub few-kept : (p : CounterTransition → Bool) (ws : List ℕ) → length (keep p (kept (transitions ws))) ≤ length ws / 3
+unfolding kept
+few-kept p ws =
+    omega (arith, length-keep p (kept (transitions ws)), length-keep changes (transitions ws), length-rowsOf transitionRow (length ws / 3) ws)
+
+module _ (c : Counters) (t ws : List ℕ) where
+  -- the table holds no state
+  pub judge-broken : holds c t ≡ false → changed (record { answer = Refused Broken; counters = c }) t ≡ batchCall c t ws
+  unfolding batchCall onState laidOut
+  judge-broken h = rw h
+
+  -- the words are ragged
+  pub judge-ragged : holds c t ≡ true → (length ws % 3 ≡ 0 → ⊥) → changed (record { answer = Refused Broken; counters = c }) t ≡ batchCall c t ws
+  unfolding batchCall onState laidOut batchOf
+  judge-ragged h e = rw (h, ne-eqb (length ws % 3) 0 e)
+
+module _ (c : Counters) (t ws : List ℕ) (h : holds c t ≡ true) (whole : length ws % 3 ≡ 0) where
+  abbrev next : ℕ
+  next = c .«next_idx» .0
+
+  abbrev es : List Entry
+  es = rowsOf countRow (c .stored) t
+
+  abbrev ks : List CounterTransition
+  ks = kept (transitions ws)
+
+  whole-batch : batchCall c t ws ≡ laidOut c t (applyBatch (roomOf t) (stateOf c t) (transitions ws))
+  unfolding batchOf
+  whole-batch = batch-held c t ws (transitions ws) h (rw (eq-eqb (length ws % 3) 0 whole))
+
+  refusal : (r : Refusal) → applyBatch (roomOf t) (stateOf c t) (transitions ws) ≡ refused r
+      → changed (record { answer = Refused r; counters = c }) t ≡ batchCall c t ws
+  unfolding laidOut
+  refusal r e = sym (whole-batch ∙ ap (laidOut c t) e)
+
+  -- ---- the tests in their order
+  at-2 : any (unallocated next) ks ≡ true → applyBatch (roomOf t) (stateOf c t) (transitions ws) ≡ refused Unallocated
+  unfolding applyBatch applyKept stateOf
+  at-2 e = rw e
+
+  pub judge-unallocated : any (unallocated next) ks ≡ true → changed (record { answer = Refused Unallocated; counters = c }) t ≡ batchCall c t ws
+  judge-unallocated e = refusal Unallocated (at-2 e)
+
+  module _ (e₂ : any (unallocated next) ks ≡ false) where
+    at-3 : repeated (named ks) ≡ true → applyBatch (roomOf t) (stateOf c t) (transitions ws) ≡ refused Repeated
+    unfolding applyBatch applyKept stateOf
+    at-3 e = rw (e₂, e)
+
+    pub judge-repeated : repeated (named ks) ≡ true → changed (record { answer = Refused Repeated; counters = c }) t ≡ batchCall c t ws
+    judge-repeated e = refusal Repeated (at-3 e)
+
+    module _ (e₃ : repeated (named ks) ≡ false) where
+      at-5 : any (falseOld es) ks ≡ true → applyBatch (roomOf t) (stateOf c t) (transitions ws) ≡ refused FalseOld
+      unfolding applyBatch applyKept stateOf
+      at-5 e = rw (e₂, e₃, e)
+
+      pub judge-false-old : any (falseOld es) ks ≡ true → changed (record { answer = Refused FalseOld; counters = c }) t ≡ batchCall c t ws
+      judge-false-old e = refusal FalseOld (at-5 e)
+
+      module _ (e₅ : any (falseOld es) ks ≡ false) where
+        at-4 : offTotal (c .«live_cells») ks ≡ true → applyBatch (roomOf t) (stateOf c t) (transitions ws) ≡ refused OffTotal
+        unfolding applyBatch applyKept stateOf
+        at-4 e = rw (e₂, e₃, e₅, e)
+
+        pub judge-off-total : offTotal (c .«live_cells») ks ≡ true → changed (record { answer = Refused OffTotal; counters = c }) t ≡ batchCall c t ws
+        judge-off-total e = refusal OffTotal (at-4 e)
+
+        -- how many counts there are after it
+        pub rows-after : length (countsAfter ks es) + length (keep falls ks) ≡ c .stored + length (keep rises ks)
+        rows-after = rw (length-rowsOf countRow (c .stored) t) at (length-countsAfter next ks es (held c t h .sorted) e₂ e₃ e₅)
+
+        module _ (e₄ : offTotal (c .«live_cells») ks ≡ false) where
+          at-6 : ltb (roomOf t) (length (countsAfter ks es)) ≡ true → applyBatch (roomOf t) (stateOf c t) (transitions ws) ≡ refused TableFull
+          unfolding applyBatch applyKept stateOf
+          at-6 e = rw (e₂, e₃, e₅, e₄, e)
+
+          pub judge-full : ltb (roomOf t) (length (countsAfter ks es)) ≡ true → changed (record { answer = Refused TableFull; counters = c }) t ≡ batchCall c t ws
+          judge-full e = refusal TableFull (at-6 e)
+
+          at-0 : ltb (roomOf t) (length (countsAfter ks es)) ≡ false → applyBatch (roomOf t) (stateOf c t) (transitions ws) ≡ taken (stateAfter ks (stateOf c t))
+          unfolding applyBatch applyKept stateOf
+          at-0 e = rw (e₂, e₃, e₅, e₄, e)
+
+          pub judge-taken : ltb (roomOf t) (length (countsAfter ks es)) ≡ false
+              → changed (record { answer = Taken; counters = recordOf (stateAfter ks (stateOf c t)) }) (tableOf (length t) (stateAfter ks (stateOf c t))) ≡ batchCall c t ws
+          unfolding laidOut laid
+          judge-taken e = sym (whole-batch ∙ ap (laidOut c t) (at-0 e))
+
+-- ---- the total, by its two figures
+module _ (live : ℕ) (ks : List CounterTransition) where
+  pub total-test : (ltb max64 (live + length (keep birth ks)) || ltb (live + length (keep birth ks)) (length (keep death ks))) ≡ offTotal live ks
+  unfolding offTotal births deaths
+  total-test = refl
+
+  pub total-within : offTotal live ks ≡ false → (live + length (keep birth ks) ≤ 2 ^ 64 - 1) × (length (keep death ks) ≤ live + length (keep birth ks))
+  unfolding offTotal births deaths
+  total-within e =
+      let f = or-false (ltb max64 (live + length (keep birth ks))) (ltb (live + length (keep birth ks)) (length (keep death ks))) e in
+      (ltb-false max64 (live + length (keep birth ks)) (f .0), ltb-false (live + length (keep birth ks)) (length (keep death ks)) (f .1))
