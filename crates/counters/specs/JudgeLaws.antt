@@ -25,6 +25,7 @@ use Rattle.counters.specs.Batch.{changes, birth, death, kept, named, una
 use Rattle.counters.specs.Layout.{countRow, transitionRow, roomOf, recordOf, tableOf, stateOf, holds, batchOf}
 use Rattle.counters.specs.LayoutLaws.{held}
 use Rattle.counters.specs.Calls.{changed, onState, laidOut, laid, batchCall}
+use Rattle.counters.specs.Held.{Judged}
 use Rattle.counters.specs.Steps.{transitions}
 use Rattle.counters.specs.BatchLaws.{length-countsAfter}
 use Rattle.counters.specs.CallLaws.{batch-held}
@@ -101,6 +102,15 @@ module _ (c : Counters) (t ws : List ℕ) (h : holds c t ≡ true) (whole : leng
         pub rows-after : length (countsAfter ks es) + length (keep falls ks) ≡ c .stored + length (keep rises ks)
         rows-after = rw (length-rowsOf countRow (c .stored) t) at (length-countsAfter next ks es (held c t h .sorted) e₂ e₃ e₅)
 
+        -- the room test, by the rows that come and go
+        module _ (r f : ℕ) (come : r ≡ length (keep rises ks)) (go : f ≡ length (keep falls ks)) where
+          pub room-test : ltb (length t / 2) (c .stored + r - f) ≡ ltb (roomOf t) (length (countsAfter ks es))
+          unfolding roomOf
+          room-test = ap (ltb (length t / 2)) (omega (arith, rows-after))
+
+          pub room-asks : length t < 2 ^ 62 → length ws < 2 ^ 62 → (c .stored + r < 2 ^ 64) × (f ≤ c .stored + r)
+          room-asks p q = (omega (arith, few-kept rises ws, held c t h .laid .fits), omega (arith, rows-after))
+
         module _ (e₄ : offTotal (c .«live_cells») ks ≡ false) where
           at-6 : ltb (roomOf t) (length (countsAfter ks es)) ≡ true → applyBatch (roomOf t) (stateOf c t) (transitions ws) ≡ refused TableFull
           unfolding applyBatch applyKept stateOf
@@ -113,6 +123,10 @@ module _ (c : Counters) (t ws : List ℕ) (h : holds c t ≡ true) (whole : leng
           unfolding applyBatch applyKept stateOf
           at-0 e = rw (e₂, e₃, e₅, e₄, e)
 
+          pub judged : ltb (roomOf t) (length (countsAfter ks es)) ≡ false → Judged c t ws
+          unfolding roomOf
+          judged e = record { holding = h; once = e₃; total = e₄; fits = omega (arith, ltb-false (length t / 2) (length (countsAfter ks es)) e) }
+
           pub judge-taken : ltb (roomOf t) (length (countsAfter ks es)) ≡ false
               → changed (record { answer = Taken; counters = recordOf (stateAfter ks (stateOf c t)) }) (tableOf (length t) (stateAfter ks (stateOf c t))) ≡ batchCall c t ws
           unfolding laidOut laid
@@ -123,6 +137,9 @@ module _ (live : ℕ) (ks : List CounterTransition) where
   pub total-test : (ltb max64 (live + length (keep birth ks)) || ltb (live + length (keep birth ks)) (length (keep death ks))) ≡ offTotal live ks
   unfolding offTotal births deaths
   total-test = refl
+
+  pub total-of : (b d : ℕ) → b ≡ length (keep birth ks) → d ≡ length (keep death ks) → (ltb max64 (live + b) || ltb (live + b) d) ≡ offTotal live ks
+  total-of b d p q = rw (p, q) total-test
 
   pub total-within : offTotal live ks ≡ false → (live + length (keep birth ks) ≤ 2 ^ 64 - 1) × (length (keep death ks) ≤ live + length (keep birth ks))
   unfolding offTotal births deaths
