@@ -1,0 +1,6 @@
+-- `SetLaws`: counts set one after the other. `SmallLaws`: the eight sets laid over one another. `ByteLaws`: the bytes of the sets and of the large tier.
+-- `RoundTrip`: reading what was written, and what the bytes determine.
+pub mod SetLaws
+pub mod SmallLaws
+pub mod ByteLaws
+pub mod RoundTrip
