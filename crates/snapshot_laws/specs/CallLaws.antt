@@ -28,13 +28,13 @@ use Rattle.snapshot_laws.specs.RoundTrip.{WellFormed, renewed, read-snap
 
 -- ---- a table of u64 holds u64
 module _ (p : ℕ → Bool) where
-  word-passes : (t : List ℕ) (i : ℕ) → p 0 ≡ true → all p t ≡ true → p (getD t i 0) ≡ true
+  pub word-passes : (t : List ℕ) (i : ℕ) → p 0 ≡ true → all p t ≡ true → p (getD t i 0) ≡ true
   unfolding all
   word-passes [] i z a = z
   word-passes (x ∷ t) zero z a = and-left (p x) (all p t) a
   word-passes (x ∷ t) (suc i) z a = word-passes t i z (and-right (p x) (all p t) a)
 
-  words-behind : (k : ℕ) (t : List ℕ) → all p t ≡ true → all p (drop k t) ≡ true
+  pub words-behind : (k : ℕ) (t : List ℕ) → all p t ≡ true → all p (drop k t) ≡ true
   unfolding all
   words-behind zero t a = a
   words-behind (suc k) [] a = a
