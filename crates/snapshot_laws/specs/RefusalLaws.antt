@@ -4,15 +4,17 @@ use mathlib.Core.Path.{_≡_, refl, sym, ap, _∙_}
 use mathlib.Core.Logic.{_↔_, _⊎_, inl, inr}
 use mathlib.Core.Bool.{Bool, true, false, not, _||_, false≢true, or-true}
 use mathlib.Core.Option.{Option, none, some}
-use mathlib.Core.List.{List, [], _∷_}
+use mathlib.Core.List.{List, [], _∷_, map}
 use Prim.Native.Nat.{ℕ, zero, suc, _+_, _-_, _/_, _%_, _≤_, _<_}
 use native.Mathlib.Nat.{zero-add}
 use native.Mathlib.Omega.{arith}
 use native.Mathlib.Decide.{decLe, decLt}
 use lib.ListN.{length, take, drop, getD}
 use lib.Dec.{leb, ltb, eqb}
-use borrow.Author.Tests.{ltb-false, leb-true, le-leb, not-true, eqb-true, eqb-false, eq-eqb, ne-eqb, ltb-true, lt-ltb}
-use Rattle.base.specs.Logic.{all, any, fold, elem}
+use borrow.Author.Tests.{leb-false, ltb-false, leb-true, le-leb, not-true, eqb-true, eqb-false, eq-eqb, ne-eqb, ltb-true, lt-ltb}
+use Rattle.base.specs.Logic.{all, any, fold, elem, ascendingFrom}
+use Rattle.base.specs.Laws.{and-left, and-right, and-both}
+use Rattle.counters.specs.Layout.{sound, ordered}
 use Rattle.base.specs.Maybe.{maybe}
 use Rattle.base.specs.Bytes.{unle}
 use Rattle.base.specs.Answers.{Outcome, refused, taken, _>>=_, _>>_, refuseIf, orRefuse, numberOf, either}
@@ -24,8 +26,8 @@ use Rattle.slices.specs.NumberLaws.{cut-at, cut-short, readLe-at, readLe-short}
 use Rattle.roaring.specs.Read.{parse64}
 use Rattle.counters.specs.Counts.{Entry, State, storedAt, freshMaintenance}
 use Rattle.snapshot.specs.Read.{layBit, readSets, readLarge, joined, readSnapshot}
-use Rattle.snapshot_laws.specs.SetLaws.{setRow}
-use Rattle.snapshot_laws.specs.StoredLaws.{two, stored-some, any-stored, rows-stored, layBit-stored, rows-two, layBit-two}
+use Rattle.snapshot_laws.specs.SetLaws.{index, setRow}
+use Rattle.snapshot_laws.specs.StoredLaws.{two, stored-some, any-stored, rows-stored, layBit-stored, rows-two, layBit-two, rows-ascend, layBit-ascends}
 use Rattle.snapshot_laws.specs.Parts.{nextOf, liveOf, start, payload, setOf, smallOf, restOf, pairs, largeOf, countsOf, Good, GoodBefore, Whole, Torn, BadPayload, BadRest, InSmall, InLarge, InBoth, NotBelow, Clash, Exceeds}
 
 -- ---- one set after the other
@@ -339,10 +341,13 @@ module _ (base room : ℕ) (bs : List ℕ) where
   exceeds-test : (exceeds ≡ true) ↔ Exceeds bs room
   exceeds-test = ltb-lt room (length (countsOf bs))
 
-  clashes-test : ¬ BadRest bs → (clashes ≡ true) ↔ Clash bs
-  clashes-test n =
+  no-low : ¬ BadRest bs → all two (largeOf bs) ≡ true
+  no-low n =
       let none = or-false (not (eqb (length (restOf bs) % 16) 0)) (any (λ e. ltb (e .count) 257) (largeOf bs)) (fails-not (badRest bs) (badRest-test bs) .1 n) in
-      clash-test bs (large-two (largeOf bs) (none .1))
+      large-two (largeOf bs) (none .1)
+
+  clashes-test : ¬ BadRest bs → (clashes ≡ true) ↔ Clash bs
+  clashes-test n = clash-test bs (no-low n)
 
   -- ---- the steps behind the eighth payload
   tested-bad : (tested base room bs ≡ refused BadLarge) ↔ BadRest bs
@@ -448,3 +453,40 @@ module _ (base room : ℕ) (bs : List ℕ) where
 
       or-three : (a b c : Bool) → (a || (b || (c || true))) ≡ true
       or-three a b c = rw (or-true c, or-true b, or-true a)
+
+-- ---- what is read
+module _ (bs : List ℕ) where
+  small-ascends : (k : ℕ) → ascendingFrom 0 (map index (smallOf bs k)) ≡ true
+  unfolding smallOf ascendingFrom
+  small-ascends zero = refl
+  small-ascends (suc k) = layBit-ascends k (setOf bs k) (smallOf bs k) (small-ascends k)
+
+  pub counts-ascend : ascendingFrom 0 (map index (countsOf bs)) ≡ true
+  unfolding countsOf
+  counts-ascend = rows-ascend (fold setRow (largeOf bs) []) (smallOf bs 8) (small-ascends 8)
+
+-- rows none of which is at or above a bound
+below-all : (next : ℕ) (es : List Entry) → any (λ e. leb next (e .idx)) es ≡ false → all two es ≡ true → all (sound next) es ≡ true
+unfolding any all
+below-all next [] e t = refl
+below-all next (x ∷ xs) e t =
+    let f = or-false (leb next (x .idx)) (any (λ y. leb next (y .idx)) xs) e in
+    rw (lt-ltb (x .idx) next (leb-false next (x .idx) (f .0)), and-left (two x) (all two xs) t) (below-all next xs (f .1) (and-right (two x) (all two xs) t))
+
+module _ (base room : ℕ) (bs : List ℕ) (s : State) (ok : readSnapshot base room bs ≡ taken s) where
+  pub read-state : s ≡ stateRead base bs
+  read-state = read-taken base room bs s .0 ok .4
+
+  -- the counts are ascending, at least 2, below the next index
+  pub read-ordered : ordered (s .next) (s .counts) ≡ true
+  unfolding ordered
+  read-ordered =
+      let r = read-taken base room bs s .0 ok in
+      let apart = or-false (inBoth bs) (notBelow bs) (fails-not (clashes base room bs) (clashes-test base room bs (r .1)) .1 (r .2)) in
+      rw read-state
+      (and-both (ascendingFrom 0 (map index (countsOf bs))) (all (sound (nextOf bs)) (countsOf bs)) (counts-ascend bs)
+      (below-all (nextOf bs) (countsOf bs) (apart .1) (counts-two bs (no-low base room bs (r .1)))))
+
+  -- and there is room for them
+  pub read-fits : length (s .counts) ≤ room
+  read-fits = rw read-state (omega (arith, read-taken base room bs s .0 ok .3))

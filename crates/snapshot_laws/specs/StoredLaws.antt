@@ -3,20 +3,20 @@
 use mathlib.Core.Path.{_≡_, refl, sym, ap, _∙_}
 use mathlib.Core.Logic.{_↔_, _⊎_, inl, inr}
 use mathlib.Core.Bool.{Bool, true, false, _||_, false≢true}
-use mathlib.Core.List.{List, [], _∷_}
+use mathlib.Core.List.{List, [], _∷_, map}
 use Prim.Native.Nat.{ℕ, suc, _+_, _^_, _≤_, _<_}
 use native.Mathlib.Nat.{one-le-pow}
 use native.Mathlib.Omega.{arith}
 use lib.Dec.{leb, eqb}
 use borrow.Author.Tests.{le-leb, leb-true, eqb-true, eqb-false}
-use Rattle.base.specs.Logic.{pick, all, any, fold, elem}
+use Rattle.base.specs.Logic.{pick, all, any, fold, elem, ascendingFrom}
 use Rattle.base.specs.Laws.{and-left, and-right}
 use Rattle.base.specs.ListLaws.{eqb-eq, Some, here, there, some-weaker, any-some}
-use Rattle.rows.specs.OrderLaws.{putRows-all}
+use Rattle.rows.specs.OrderLaws.{putRows-all, putRows-ascending}
 use Rattle.counters.specs.Counts.{Entry, storedAt, countAt, rowOf, setCount}
-use Rattle.counters.specs.CountLaws.{storedAt-setCount}
+use Rattle.counters.specs.CountLaws.{storedAt-setCount, row-within, row-ascending}
 use Rattle.snapshot.specs.Read.{layBit}
-use Rattle.snapshot_laws.specs.SetLaws.{setRow}
+use Rattle.snapshot_laws.specs.SetLaws.{index, setRow}
 
 -- a count of at least 2
 abbrev pub two : Entry → Bool
@@ -34,6 +34,11 @@ row-two i n = go (leb 2 n) refl
 set-two : (i n : ℕ) (es : List Entry) → all two es ≡ true → all two (setCount i n es) ≡ true
 unfolding setCount
 set-two i n es a = putRows-all (λ e. e .idx) two i (suc i) (rowOf i n) es (row-two i n) a
+
+-- ---- and ascending ones too
+set-ascends : (i n : ℕ) (es : List Entry) → ascendingFrom 0 (map index es) ≡ true → ascendingFrom 0 (map index (setCount i n es)) ≡ true
+unfolding setCount
+set-ascends i n es a = putRows-ascending index i (suc i) (rowOf i n) es (omega arith) (row-within i n) (row-ascending i n) a
 
 -- ---- a row has the index exactly where a count is stored
 pub stored-some : (j : ℕ) (es : List Entry) → all two es ≡ true → (0 < storedAt j es) ↔ Some (λ e. j ≡ e .idx) es
@@ -88,6 +93,11 @@ module _ {A : Type 0} (key : A → ℕ) (value : A → List Entry → ℕ) where
   setAll-two [] es a = a
   setAll-two (x ∷ xs) es a = setAll-two xs (setCount (key x) (value x es) es) (set-two (key x) (value x es) es a)
 
+  setAll-ascends : (xs : List A) (es : List Entry) → ascendingFrom 0 (map index es) ≡ true → ascendingFrom 0 (map index (setAll xs es)) ≡ true
+  unfolding fold
+  setAll-ascends [] es a = a
+  setAll-ascends (x ∷ xs) es a = setAll-ascends xs (setCount (key x) (value x es) es) (set-ascends (key x) (value x es) es a)
+
   module _ (ok : A → Bool) (many : (x : A) → ok x ≡ true → (es : List Entry) → 2 ≤ value x es) (j : ℕ) where
     -- one more: of its own index the count, elsewhere what was there
     step : (b : Bool) (x : A) (es : List Entry) → 2 ≤ value x es → eqb j (key x) ≡ b → (0 < storedAt j (setCount (key x) (value x es) es)) ↔ ((b ≡ true) ⊎ (0 < storedAt j es))
@@ -129,3 +139,10 @@ rows-two xs es a = setAll-two (λ (e : Entry). e .idx) (λ e rows. e .count) xs 
 pub layBit-two : (k : ℕ) (ms : List ℕ) (es : List Entry) → all two es ≡ true → all two (layBit k ms es) ≡ true
 unfolding layBit
 layBit-two k ms es a = setAll-two (λ m. m) (λ m rows. countAt m rows + 2 ^ k) ms es a
+
+pub rows-ascend : (xs es : List Entry) → ascendingFrom 0 (map index es) ≡ true → ascendingFrom 0 (map index (fold setRow xs es)) ≡ true
+rows-ascend xs es a = setAll-ascends (λ (e : Entry). e .idx) (λ e rows. e .count) xs es a
+
+pub layBit-ascends : (k : ℕ) (ms : List ℕ) (es : List Entry) → ascendingFrom 0 (map index es) ≡ true → ascendingFrom 0 (map index (layBit k ms es)) ≡ true
+unfolding layBit
+layBit-ascends k ms es a = setAll-ascends (λ m. m) (λ m rows. countAt m rows + 2 ^ k) ms es a
