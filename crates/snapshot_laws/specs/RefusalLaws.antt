@@ -490,3 +490,7 @@ module _ (base room : ℕ) (bs : List ℕ) (s : State) (ok : readSnapshot base r
   -- and there is room for them
   pub read-fits : length (s .counts) ≤ room
   read-fits = rw read-state (omega (arith, read-taken base room bs s .0 ok .3))
+
+  -- every count of the large tier is at least 2
+  pub large-taken : all two (largeOf bs) ≡ true
+  large-taken = no-low base room bs (read-taken base room bs s .0 ok .1)
