@@ -1,13 +1,14 @@
--- `blake3::compress` meets its contract. The loop's invariant: the first i words are the halves by xor.
+-- `blake3_compress::compress` meets its contract. The loop's invariant: the first i words are the halves by xor.
 -- Assumes nothing.
 use mathlib.Core.Path.{_≡_, refl}
 use Prim.Native.Nat.{_-_, _≤_}
 use native.Mathlib.Omega.{arith}
 use Rattle.base.specs.Logic.{zeros}
-use Rattle.blake3.proofs.Laws.{halves, halves-more, filled, filled-8, compressed}
+use Rattle.blake3_compress.specs.FillLaws.{filled, filled-8}
+use Rattle.blake3_compress.proofs.Laws.{halves, halves-more, compressed}
 use borrow.Author.Needs.{needs}
-use Rattle.blake3.proofs.compress.Statement.{statement}
-use Rattle.blake3.proofs.compress.Tie as tie
+use Rattle.blake3_compress.proofs.compress.Statement.{statement}
+use Rattle.blake3_compress.proofs.compress.Tie as tie
 
 abbrev Inv-loop : tie.InvT-loop
 Inv-loop cv m counter block-len flags v next₀ i₀ next i = (i ≤ 8) × (next ≡ filled (halves v) i (zeros 8))

@@ -1,15 +1,15 @@
--- `blake3::word` meets its contract. An entry of the schedule is the place of a word.
+-- `blake3_compress::word` meets its contract. An entry of the schedule is the place of a word.
 -- Assumes nothing.
 use mathlib.Core.Path.{ap}
 use mathlib.Core.List.{List, []}
 use Prim.Native.Nat.{ℕ}
 use native.Mathlib.Omega.{arith}
 use lib.ListN.{getD}
-use Rattle.blake3.specs.Spec.{scheduled}
-use Rattle.blake3.proofs.Laws.{entry}
+use Rattle.blake3_compress.specs.Spec.{scheduled}
+use Rattle.blake3_compress.proofs.Laws.{entry}
 use borrow.Author.Needs.{needs}
-use Rattle.blake3.proofs.word.Statement.{statement}
-use Rattle.blake3.proofs.word.Tie as tie
+use Rattle.blake3_compress.proofs.word.Statement.{statement}
+use Rattle.blake3_compress.proofs.word.Tie as tie
 
 cast-result : tie.Need-cast-result
 cast-result c = omega (arith, entry (c .before .pre .0) (c .before .args .r) (c .before .args .i) (c .before .pre .1) (c .before .pre .2))

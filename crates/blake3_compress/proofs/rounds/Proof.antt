@@ -1,11 +1,11 @@
--- `blake3::rounds` meets its contract. Fourteen halves, one after the other.
+-- `blake3_compress::rounds` meets its contract. Fourteen halves, one after the other.
 -- Assumes nothing.
 use mathlib.Core.Path.{refl}
 use native.Mathlib.Omega.{arith}
-use Rattle.blake3.specs.Spec.{schedule}
-use Rattle.blake3.proofs.Laws.{seven-rounds}
-use Rattle.blake3.proofs.rounds.Statement.{statement}
-use Rattle.blake3.proofs.rounds.Tie as tie
+use Rattle.blake3_compress.specs.Spec.{schedule}
+use Rattle.blake3_compress.proofs.Laws.{seven-rounds}
+use Rattle.blake3_compress.proofs.rounds.Statement.{statement}
+use Rattle.blake3_compress.proofs.rounds.Tie as tie
 
 returns : tie.Need-returns
 returns c =

@@ -1,9 +1,9 @@
--- `blake3::mix` meets its contract. The four stores are those of the definition.
+-- `blake3_compress::mix` meets its contract. The four stores are those of the definition.
 -- Assumes nothing.
-use Rattle.blake3.proofs.Laws.{four-stores}
+use Rattle.blake3_compress.proofs.Laws.{four-stores}
 use borrow.Author.Needs.{needs}
-use Rattle.blake3.proofs.mix.Statement.{statement}
-use Rattle.blake3.proofs.mix.Tie as tie
+use Rattle.blake3_compress.proofs.mix.Statement.{statement}
+use Rattle.blake3_compress.proofs.mix.Tie as tie
 
 returns : tie.Need-returns
 returns c =

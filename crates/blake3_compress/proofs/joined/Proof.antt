@@ -1,12 +1,12 @@
--- `blake3::joined` meets its contract. The loop's invariant: the first i words of each part stand.
+-- `blake3_compress::joined` meets its contract. The loop's invariant: the first i words of each part stand.
 -- Assumes nothing.
 use mathlib.Core.Path.{_≡_, refl}
 use Prim.Native.Nat.{_≤_, _-_}
 use native.Mathlib.Omega.{arith}
-use Rattle.blake3.proofs.Laws.{beside, beside-more, beside-all}
+use Rattle.blake3_compress.proofs.Laws.{beside, beside-more, beside-all}
 use borrow.Author.Needs.{needs}
-use Rattle.blake3.proofs.joined.Statement.{statement}
-use Rattle.blake3.proofs.joined.Tie as tie
+use Rattle.blake3_compress.proofs.joined.Statement.{statement}
+use Rattle.blake3_compress.proofs.joined.Tie as tie
 
 abbrev Inv-loop : tie.InvT-loop
 Inv-loop l r m₀ i₀ m i = (i ≤ 8) × (m ≡ beside l r i)

@@ -1,11 +1,11 @@
--- `blake3::start` meets its contract. Four stores over the eight words and the constants.
+-- `blake3_compress::start` meets its contract. Four stores over the eight words and the constants.
 -- Assumes nothing.
 use native.Mathlib.Omega.{arith}
-use Rattle.blake3.specs.Spec.{iv}
-use Rattle.blake3.proofs.Laws.{start-stored}
+use Rattle.blake3_compress.specs.Spec.{iv}
+use Rattle.blake3_compress.proofs.Laws.{start-stored}
 use borrow.Author.Needs.{needs}
-use Rattle.blake3.proofs.start.Statement.{statement}
-use Rattle.blake3.proofs.start.Tie as tie
+use Rattle.blake3_compress.proofs.start.Statement.{statement}
+use Rattle.blake3_compress.proofs.start.Tie as tie
 
 returns : tie.Need-returns
 unfolding iv

@@ -1,9 +1,9 @@
--- `blake3::g` meets its contract. Two halves, one after the other.
+-- `blake3_compress::g` meets its contract. Two halves, one after the other.
 -- Assumes nothing.
-use Rattle.blake3.proofs.Laws.{two-halves}
+use Rattle.blake3_compress.proofs.Laws.{two-halves}
 use borrow.Author.Needs.{needs}
-use Rattle.blake3.proofs.g.Statement.{statement}
-use Rattle.blake3.proofs.g.Tie as tie
+use Rattle.blake3_compress.proofs.g.Statement.{statement}
+use Rattle.blake3_compress.proofs.g.Tie as tie
 
 returns : tie.Need-returns
 returns c =
