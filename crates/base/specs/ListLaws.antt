@@ -2,15 +2,15 @@
 -- Assumes nothing.
 use mathlib.Core.Path.{_≡_, refl, sym, ap, ap₂, _∙_}
 use mathlib.Core.Logic.{_↔_, _⊎_, inl, inr}
-use mathlib.Core.Bool.{Bool, true, false, not, _||_, true≢false, false≢true}
+use mathlib.Core.Bool.{Bool, true, false, not, _&&_, _||_, true≢false, false≢true, and-assoc}
 use mathlib.Core.List.{List, [], _∷_, _++_, map, Permᴰ·map, Permᴰ·refl}
 use mathlib.Core.List.{List·Permᴰ as Reordered, List·Permᴰ·nil as order-nil, List·Permᴰ·cons as order-cons, List·Permᴰ·swap as order-swap, List·Permᴰ·trans as order-trans}
-use Prim.Native.Nat.{ℕ, suc, _+_, _≤_, _<_}
+use Prim.Native.Nat.{ℕ, suc, _+_, _*_, _≤_, _<_}
 use native.Mathlib.Omega.{arith}
-use lib.ListN.{length}
+use lib.ListN.{length, length-append}
 use lib.Dec.{eqb, leb, ltb}
 use borrow.Author.Tests.{eqb-true, eqb-false, eq-eqb, ne-eqb, leb-true, le-leb, ltb-true, lt-ltb}
-use Rattle.base.specs.Logic.{pick, all, any, keep, fold, elem, repeated, ascendingFrom}
+use Rattle.base.specs.Logic.{pick, all, any, keep, fold, flat, elem, repeated, sumOf, ascendingFrom}
 use Rattle.base.specs.Laws.{and-left, and-right, and-both, ascending-head, ascending-tail, ascending-lower}
 
 -- ---- tests
@@ -318,3 +318,48 @@ module _ {A : Type 0} (key : A → ℕ) where
   ascending-from lo hi [] a b = refl
   ascending-from lo hi (x ∷ xs) a b =
       and-both (leb hi (key x)) (ascendingFrom (suc (key x)) (map key xs)) (and-left (leb hi (key x)) (all (λ y. leb hi (key y)) xs) b) (ascending-tail lo (key x) (map key xs) a)
+
+-- ---- a test that every item passes
+module _ {A : Type 0} (p : A → Bool) where
+  pub all-head : (x : A) (xs : List A) → all p (x ∷ xs) ≡ true → p x ≡ true
+  unfolding all
+  all-head x xs e = and-left (p x) (all p xs) e
+
+  pub all-tail : (x : A) (xs : List A) → all p (x ∷ xs) ≡ true → all p xs ≡ true
+  unfolding all
+  all-tail x xs e = and-right (p x) (all p xs) e
+
+  pub all-cons : (x : A) (xs : List A) → p x ≡ true → all p xs ≡ true → all p (x ∷ xs) ≡ true
+  unfolding all
+  all-cons x xs h e = and-both (p x) (all p xs) h e
+
+  pub all-join : (xs ys : List A) → all p (xs ++ ys) ≡ (all p xs && all p ys)
+  unfolding all
+  all-join [] ys = refl
+  all-join (x ∷ xs) ys = ap (λ (b : Bool). p x && b) (all-join xs ys) ∙ sym (and-assoc (p x) (all p xs) (all p ys))
+
+  pub all-left : (xs ys : List A) → all p (xs ++ ys) ≡ true → all p xs ≡ true
+  unfolding all
+  all-left [] ys e = refl
+  all-left (x ∷ xs) ys e = all-cons x xs (all-head x (xs ++ ys) e) (all-left xs ys (all-tail x (xs ++ ys) e))
+
+  pub all-right : (xs ys : List A) → all p (xs ++ ys) ≡ true → all p ys ≡ true
+  all-right [] ys e = e
+  all-right (x ∷ xs) ys e = all-right xs ys (all-tail x (xs ++ ys) e)
+
+  pub all-flat : {B : Type 0} (f : B → List A) → ((x : B) → all p (f x) ≡ true) → (xs : List B) → all p (flat f xs) ≡ true
+  unfolding all flat
+  all-flat f h [] = refl
+  all-flat f h (x ∷ xs) = all-append p (f x) (flat f xs) (h x) (all-flat f h xs)
+
+-- ---- a list for each item, end to end
+module _ {A B : Type 0} (f : A → List B) where
+  pub length-flat : (xs : List A) → length (flat f xs) ≡ sumOf (λ x. length (f x)) xs
+  unfolding flat sumOf
+  length-flat [] = refl
+  length-flat (x ∷ xs) = length-append (f x) (flat f xs) ∙ ap (λ (n : ℕ). length (f x) + n) (length-flat xs)
+
+  pub length-flat-even : (k : ℕ) → ((x : A) → length (f x) ≡ k) → (xs : List A) → length (flat f xs) ≡ k * length xs
+  unfolding flat
+  length-flat-even k h [] = omega arith
+  length-flat-even k h (x ∷ xs) = length-append (f x) (flat f xs) ∙ omega (arith, h x, length-flat-even k h xs)

@@ -1,16 +1,17 @@
 -- Sums over lists, lists in order put together, and what is kept of a list and what is not.
 -- Assumes nothing.
-use mathlib.Core.Path.{_≡_, refl, ap}
+use mathlib.Core.Path.{_≡_, refl, sym, ap, ap₂, _∙_}
 use mathlib.Core.Bool.{Bool, true, false, not, _||_}
 use mathlib.Core.List.{List, [], _∷_, _++_, map}
-use Prim.Native.Nat.{ℕ, zero, suc, _+_, _*_, _/_, _%_, _^_, _≤_, _<_}
-use native.Mathlib.Nat.{mul-suc, mul-add, mul-assoc, mul-le-mul-left, mod-lt, pow-succ', pow-zero}
+use Prim.Native.Nat.{ℕ, zero, suc, _+_, _-_, _*_, _/_, _%_, _^_, _≤_, _<_}
+use native.Mathlib.Nat.{mul-zero, mul-suc, mul-add, mul-assoc, mul-le-mul-left, mod-lt, pow-succ', pow-zero}
 use native.Mathlib.Omega.{arith}
 use lib.ListN.{length}
 use lib.Dec.{leb, ltb}
 use borrow.Author.Tests.{ltb-true, leb-true, lt-ltb, le-leb}
-use Rattle.base.specs.Logic.{pick, all, keep, sumOf, ascendingFrom, sortedFrom}
+use Rattle.base.specs.Logic.{pick, all, keep, flat, sumOf, ascendingFrom, sortedFrom}
 use Rattle.base.specs.Laws.{and-left, and-right, and-both, sorted-head, sorted-tail, sorted-lower, ascending-head, ascending-tail, ascending-lower}
+use Rattle.base.specs.ListLaws.{all-head, all-tail}
 
 -- ---- neither test passes where their disjunction doesn't
 pub or-left : (a b : Bool) → (a || b) ≡ false → a ≡ false
@@ -97,3 +98,80 @@ module _ {A : Type 0} (p : A → Bool) where
           | true ↦ and-both _ _ (le-leb lo (key x) h) rest
           | false ↦ sorted-lower lo (key x) (map key (keep p xs)) h rest
         ]
+
+-- ---- ascending numbers
+pub ascending-cons : (lo x : ℕ) (xs : List ℕ) → lo ≤ x → ascendingFrom (suc x) xs ≡ true → ascendingFrom lo (x ∷ xs) ≡ true
+unfolding ascendingFrom
+ascending-cons lo x xs h a = and-both (leb lo x) (ascendingFrom (suc x) xs) (le-leb lo x h) a
+
+pub ascending-left : (lo : ℕ) (xs ys : List ℕ) → ascendingFrom lo (xs ++ ys) ≡ true → ascendingFrom lo xs ≡ true
+unfolding ascendingFrom
+ascending-left lo [] ys a = refl
+ascending-left lo (x ∷ xs) ys a = ascending-cons lo x xs (ascending-head lo x (xs ++ ys) a) (ascending-left (suc x) xs ys (ascending-tail lo x (xs ++ ys) a))
+
+pub ascending-right : (lo : ℕ) (xs ys : List ℕ) → ascendingFrom lo (xs ++ ys) ≡ true → ascendingFrom lo ys ≡ true
+ascending-right lo [] ys a = a
+ascending-right lo (x ∷ xs) ys a =
+    let h = ascending-head lo x (xs ++ ys) a in
+    ascending-lower lo (suc x) ys (omega arith) (ascending-right (suc x) xs ys (ascending-tail lo x (xs ++ ys) a))
+
+-- the same amount added to each number
+pub ascending-shift : (c lo : ℕ) (xs : List ℕ) → ascendingFrom lo xs ≡ true → ascendingFrom (c + lo) (map (λ x. c + x) xs) ≡ true
+unfolding ascendingFrom
+ascending-shift c lo [] a = refl
+ascending-shift c lo (x ∷ xs) a =
+    let h = ascending-head lo x xs a in
+    ascending-cons (c + lo) (c + x) (map (λ y. c + y) xs) (omega arith)
+    (ascending-lower (suc (c + x)) (c + suc x) (map (λ y. c + y) xs) (omega arith) (ascending-shift c (suc x) xs (ascending-tail lo x xs a)))
+
+pub ascending-unshift : (c lo : ℕ) (xs : List ℕ) → ascendingFrom lo (map (λ x. c + x) xs) ≡ true → ascendingFrom (lo - c) xs ≡ true
+unfolding ascendingFrom
+ascending-unshift c lo [] a = refl
+ascending-unshift c lo (x ∷ xs) a =
+    let h = ascending-head lo (c + x) (map (λ y. c + y) xs) a in
+    ascending-cons (lo - c) x xs (omega arith)
+    (ascending-lower (suc x) (suc (c + x) - c) xs (omega arith) (ascending-unshift c (suc (c + x)) xs (ascending-tail lo (c + x) (map (λ y. c + y) xs) a)))
+
+-- ascending numbers of a stretch are no more than its places
+pub ascending-length : (lo hi : ℕ) (xs : List ℕ) → lo ≤ hi → ascendingFrom lo xs ≡ true → all (λ x. ltb x hi) xs ≡ true → lo + length xs ≤ hi
+ascending-length lo hi [] h a e = omega arith
+ascending-length lo hi (x ∷ xs) h a e =
+    let l = ascending-head lo x xs a in
+    let u : x < hi = ltb-true x hi (all-head (λ y. ltb y hi) x xs e) in
+    let r = ascending-length (suc x) hi xs u (ascending-tail lo x xs a) (all-tail (λ y. ltb y hi) x xs e) in
+    omega arith
+
+-- ---- sums of lists made from others
+module _ {A : Type 0} where
+  -- a list for each item, end to end
+  pub sumOf-flat : {B : Type 0} (f : A → ℕ) (g : B → List A) (xs : List B) → sumOf f (flat g xs) ≡ sumOf (λ x. sumOf f (g x)) xs
+  unfolding sumOf flat
+  sumOf-flat f g [] = refl
+  sumOf-flat f g (x ∷ xs) = sum-append f (g x) (flat g xs) ∙ ap (λ (n : ℕ). sumOf f (g x) + n) (sumOf-flat f g xs)
+
+  pub sumOf-map : {B : Type 0} (f : A → ℕ) (g : B → A) (xs : List B) → sumOf f (map g xs) ≡ sumOf (λ x. f (g x)) xs
+  unfolding sumOf
+  sumOf-map f g [] = refl
+  sumOf-map f g (x ∷ xs) = ap (λ (n : ℕ). f (g x) + n) (sumOf-map f g xs)
+
+  -- the same number for each item, and one besides
+  pub sumOf-even : (k : ℕ) (f : A → ℕ) (xs : List A) → sumOf (λ x. k + f x) xs ≡ k * length xs + sumOf f xs
+  unfolding sumOf
+  sumOf-even k f [] = omega arith
+  sumOf-even k f (x ∷ xs) = omega (arith, sumOf-even k f xs)
+
+  pub sumOf-times : (k : ℕ) (f : A → ℕ) (xs : List A) → sumOf (λ x. k * f x) xs ≡ k * sumOf f xs
+  unfolding sumOf
+  sumOf-times k f [] = sym (mul-zero k)
+  sumOf-times k f (x ∷ xs) = omega (arith, sumOf-times k f xs)
+
+  -- numbers that are the same, or no more
+  pub sumOf-same : (f g : A → ℕ) → ((x : A) → f x ≡ g x) → (xs : List A) → sumOf f xs ≡ sumOf g xs
+  unfolding sumOf
+  sumOf-same f g h [] = refl
+  sumOf-same f g h (x ∷ xs) = ap₂ _+_ (h x) (sumOf-same f g h xs)
+
+  pub sumOf-le : (f g : A → ℕ) → ((x : A) → f x ≤ g x) → (xs : List A) → sumOf f xs ≤ sumOf g xs
+  unfolding sumOf
+  sumOf-le f g h [] = omega arith
+  sumOf-le f g h (x ∷ xs) = omega (arith, h x, sumOf-le f g h xs)

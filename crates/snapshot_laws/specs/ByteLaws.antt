@@ -18,7 +18,7 @@ use Rattle.roaring.specs.Write.{Part, parts, write64}
 use Rattle.roaring.specs.PartLaws.{few-parts}
 use Rattle.roaring.specs.ContainerLaws.{containerLength-le}
 use Rattle.roaring.specs.RoundTrip.{read-write64}
-use Rattle.roaring.specs.LengthLaws.{sizeOf, length-write64}
+use Rattle.roaring_rows.specs.LengthLaws.{sizeOf, length-write64}
 use Rattle.counters.specs.Counts.{Entry, members}
 use Rattle.counters.specs.Layout.{ordered}
 use Rattle.snapshot.specs.Write.{setBytes, largeBytes}

@@ -5,7 +5,8 @@ use Prim.Native.Nat.{_≤_, _-_}
 use native.Mathlib.Omega.{arith}
 use Rattle.base.specs.Logic.{zeros}
 use Rattle.blake3.specs.Spec.{blockWords}
-use Rattle.blake3.proofs.Laws.{wordOf, filled, filled-more, filled-16}
+use Rattle.blake3_compress.specs.FillLaws.{filled, filled-more, filled-16}
+use Rattle.blake3.proofs.Laws.{wordOf}
 use borrow.Author.Needs.{needs}
 use Rattle.blake3.proofs.block_words.Statement.{statement}
 use Rattle.blake3.proofs.block_words.Tie as tie
@@ -21,7 +22,7 @@ unfolding filled
 loop-holds c = (omega arith, refl)
 
 loop-again : tie.Need-loop-again Inv-loop μ-loop
-loop-again c = (omega arith, filled-more (wordOf _) _ _ (c .before .before .loop .inv .1) (c .word-at .ensures))
+loop-again c = (omega arith, filled-more (wordOf _) _ _ (c .before .before .loop .inv .1) (c .read-le32 .ensures))
 
 returns : tie.Need-returns Inv-loop μ-loop
 unfolding blockWords

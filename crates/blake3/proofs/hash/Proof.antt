@@ -1,6 +1,6 @@
 -- `blake3::hash` meets its contract. Hash mode starts from the constant words, with no flag.
 -- Assumes nothing.
-use Rattle.blake3.specs.Spec.{iv}
+use Rattle.blake3_compress.specs.Spec.{iv}
 use Rattle.blake3.proofs.Laws.{hashed}
 use borrow.Author.Needs.{needs}
 use Rattle.blake3.proofs.hash.Statement.{statement}

@@ -1,0 +1,2 @@
+-- `Laws`: what the proofs cite.
+pub mod Laws
