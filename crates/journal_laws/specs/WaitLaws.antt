@@ -1,0 +1,166 @@
+-- In a nursery that started empty the waiting rows, with those that were handed out, are the entries' rows in some order.
+-- So there are never more waiting rows than entries, and as many where nothing was handed out.
+-- Assumes nothing.
+use mathlib.Core.Path.{_≡_, refl, sym, ap, _∙_}
+use mathlib.Core.Bool.{Bool, true, false, not, _||_}
+use mathlib.Core.Option.{none, some}
+use mathlib.Core.List.{List, [], _∷_, _++_, map, append-assoc, append-nil, map-append}
+use mathlib.Core.List.{List·Permᴰ as Reordered, List·Permᴰ·nil as order-nil, List·Permᴰ·cons as order-cons, List·Permᴰ·trans as order-trans, Permᴰ·refl, Permᴰ·symm, Permᴰ·append-right, Permᴰ·append-left, Permᴰ·middle, Permᴰ·map, List·Permᴰ·append-comm}
+use Prim.Native.Nat.{ℕ, suc, _+_, _≤_}
+use native.Mathlib.Omega.{arith}
+use native.Mathlib.Decide.{decLe, ℕ-discrete}
+use lib.ListN.{length, length-append, length-map}
+use lib.Dec.{leb, ltb, eqb}
+use borrow.Author.Tests.{lt-ltb, le-ltb, le-leb, lt-leb, ne-eqb, eqb-false, eqb-true, not-true, not-false}
+use Rattle.base.specs.Logic.{pick, all, any, elem, keep, fold, repeated}
+use Rattle.base.specs.Laws.{and-left, and-right, and-both}
+use Rattle.base.specs.ListLaws.{or-false, keep-append, keep-order, length-order, eqb-sym}
+use Rattle.base.specs.SumLaws.{keep-map}
+use Rattle.rows.specs.Keys.{putRows}
+use Rattle.cell_nursery.specs.Entries.{Entry, Waiting, State, empty, putEntry, putWaiting, insert, remove}
+use Rattle.cell_nursery.specs.Items.{Delta}
+use Rattle.cell_nursery.specs.Delta.{present, used, stateAfter}
+use Rattle.cell_nursery.specs.Drain.{due, drained}
+use Rattle.cell_nursery.specs.EntryLaws.{entryAt, entryAt-put, entryAt-miss}
+
+-- ---- a list in two parts
+module _ {A : Type 0} where
+  -- what one test keeps and what the other keeps, where exactly one of them passes
+  pub two-parts : (p q ok : A → Bool) → ((x : A) → ok x ≡ true → q x ≡ not (p x)) → (xs : List A) → all ok xs ≡ true → Reordered (keep p xs ++ keep q xs) xs
+  unfolding keep all
+  two-parts p q ok h [] a = order-nil
+  two-parts p q ok h (x ∷ xs) a = rw (h x (and-left (ok x) (all ok xs) a)) (go (p x) (two-parts p q ok h xs (and-right (ok x) (all ok xs) a)))
+    where
+      go : (b : Bool) → Reordered (keep p xs ++ keep q xs) xs → Reordered (pick b (x ∷ keep p xs) (keep p xs) ++ pick (not b) (x ∷ keep q xs) (keep q xs)) (x ∷ xs)
+      go true r = order-cons refl r
+      go false r = order-trans (Permᴰ·middle x (keep p xs) (keep q xs)) (order-cons refl r)
+
+-- a row put among others
+module _ {A : Type 0} (key : A → ℕ) (x : A) (xs : List A) where
+  put-between : (i : ℕ) → Reordered (putRows key i i (x ∷ []) xs) (x ∷ xs)
+  unfolding putRows all
+  put-between i = order-trans (Permᴰ·middle x (keep (λ e. ltb (key e) i) xs) (keep (λ e. leb i (key e)) xs)) (order-cons refl (two-parts (λ e. ltb (key e) i) (λ e. leb i (key e)) (λ e. true) (λ e t. other (key e)) xs (every xs)))
+    where
+      other : (k : ℕ) → leb i k ≡ not (ltb k i)
+      other k = elim (decLe i k) [ yes h ↦ rw (le-leb i k h, le-ltb k i h) | no h ↦ rw (lt-leb i k (omega arith), lt-ltb k i (omega arith)) ]
+
+      every : (ys : List A) → all (λ e. true) ys ≡ true
+      every [] = refl
+      every (y ∷ ys) = every ys
+
+  -- in the place of none
+  put-absent : (i : ℕ) → elem i (map key xs) ≡ false → Reordered (putRows key i (suc i) (x ∷ []) xs) (x ∷ xs)
+  unfolding putRows all any
+  put-absent i a = order-trans (Permᴰ·middle x (keep (λ e. ltb (key e) i) xs) (keep (λ e. leb (suc i) (key e)) xs)) (order-cons refl (two-parts (λ e. ltb (key e) i) (λ e. leb (suc i) (key e)) (λ e. not (eqb (key e) i)) (λ e t. other (key e) (eqb-false (key e) i (not-true (eqb (key e) i) t))) xs (absent xs a)))
+    where
+      other : (k : ℕ) → (k ≡ i → ⊥) → leb (suc i) k ≡ not (ltb k i)
+      other k ne = elim (decLe i k) [ yes h ↦ rw (le-leb (suc i) k (omega (arith, ne)), le-ltb k i h) | no h ↦ rw (lt-leb (suc i) k (omega arith), lt-ltb k i (omega arith)) ]
+
+      absent : (ys : List A) → elem i (map key ys) ≡ false → all (λ e. not (eqb (key e) i)) ys ≡ true
+      absent [] e = refl
+      absent (y ∷ ys) e = let f = or-false (eqb i (key y)) (elem i (map key ys)) e in and-both _ _ (ap not (eqb-sym (key y) i ∙ f .0)) (absent ys (f .1))
+
+-- ---- the waiting rows
+-- the row of an entry that waits
+abbrev pub waiterFor : Entry → Waiting
+waiterFor e = record { born = e .born; hash = e .hash }
+
+-- the waiting rows and those that are gone are the entries' rows
+abbrev pub Waits : List Waiting → State → Type 0
+Waits gone s = Reordered (s .waiting ++ gone) (map waiterFor (s .entries))
+
+pub waits-empty : Waits [] empty
+unfolding empty
+waits-empty = order-nil
+
+pub waits-insert : (gone : List Waiting) (e : Entry) (s : State) → elem (e .hash) (map (λ x. x .hash) (s .entries)) ≡ false → Waits gone s → Waits gone (insert e s)
+unfolding insert putEntry putWaiting
+waits-insert gone e s a w =
+    order-trans (Permᴰ·append-right gone (put-between (λ x. x .born) (waiterFor e) (s .waiting) (suc (e .born))))
+    (order-trans (order-cons refl w) (Permᴰ·symm (Permᴰ·map waiterFor (put-absent (λ x. x .hash) e (s .entries) (e .hash) a))))
+
+pub waits-remove : (gone : List Waiting) (h : ℕ) (s : State) → Waits gone s → Waits (keep (λ w. not (eqb (w .hash) h)) gone) (remove h s)
+unfolding remove
+waits-remove gone h s w =
+    let p : Waiting → Bool = λ x. not (eqb (x .hash) h) in
+    rw (keep-append p (s .waiting) gone, keep-map p waiterFor (s .entries)) at (keep-order p w)
+
+pub waits-drained : (delay round : ℕ) (gone : List Waiting) (s : State) → Waits gone s → Waits (keep (due delay round) (s .waiting) ++ gone) (drained delay round s)
+unfolding drained all
+waits-drained delay round gone s w =
+    rw (← append-assoc (keep (λ x. not (due delay round x)) (s .waiting)) (keep (due delay round) (s .waiting)) gone)
+    (order-trans (Permᴰ·append-right gone (two-parts (λ x. not (due delay round x)) (due delay round) (λ x. true) (λ x t. twice (due delay round x)) (s .waiting) (every (s .waiting)))) w)
+  where
+    twice : (b : Bool) → b ≡ not (not b)
+    twice true = refl
+    twice false = refl
+
+    every : (ys : List Waiting) → all (λ e. true) ys ≡ true
+    every [] = refl
+    every (y ∷ ys) = every ys
+
+-- ---- how many there are
+module _ (gone : List Waiting) (s : State) (w : Waits gone s) where
+  pub number-waits : length (s .waiting) + length gone ≡ length (s .entries)
+  number-waits = sym (length-append (s .waiting) gone) ∙ length-order w ∙ length-map (s .entries) waiterFor
+
+  pub used-waits : used s ≡ length (s .entries)
+  unfolding used
+  used-waits = omega (arith, number-waits)
+
+-- ---- a whole delta
+-- a hash with no entry is absent
+none-absent : (h : ℕ) (es : List Entry) → entryAt h es ≡ none → elem h (map (λ e. e .hash) es) ≡ false
+unfolding entryAt any
+none-absent h [] n = refl
+none-absent h (e ∷ es) n = go (none-absent h es) (eqb (e .hash) h) refl n
+  where
+    go : (entryAt h es ≡ none → elem h (map (λ x. x .hash) es) ≡ false) → (b : Bool) → eqb (e .hash) h ≡ b → pick b (some e) (entryAt h es) ≡ none → (eqb h (e .hash) || elem h (map (λ x. x .hash) es)) ≡ false
+    go r true q m = let z : _≡_ {A = ℕ} 0 1 = cc in absurd (omega arith)
+    go r false q m = rw (eqb-sym h (e .hash), q) (r m)
+
+-- after an insert of another hash it is still absent
+absent-insert : (h : ℕ) (e : Entry) (s : State) → (h ≡ e .hash → ⊥) → elem h (map (λ x. x .hash) (s .entries)) ≡ false → elem h (map (λ x. x .hash) (insert e s .entries)) ≡ false
+unfolding insert
+absent-insert h e s ne a = none-absent h (putEntry e (s .entries)) (entryAt-put h e (s .entries) ∙ rw (ne-eqb h (e .hash) ne) (entryAt-miss h (s .entries) a))
+
+-- inserted hashes that are absent, each once
+abbrev Absent : List Entry → State → Type 0
+Absent is s = (any (λ e. elem (e .hash) (map (λ x. x .hash) (s .entries))) is ≡ false) × (repeated (map (λ e. e .hash) is) ≡ false)
+
+still-absent : (e : Entry) (is : List Entry) (s : State) → elem (e .hash) (map (λ x. x .hash) is) ≡ false
+    → any (λ x. elem (x .hash) (map (λ y. y .hash) (s .entries))) is ≡ false → any (λ x. elem (x .hash) (map (λ y. y .hash) (insert e s .entries))) is ≡ false
+unfolding any
+still-absent e [] s n a = refl
+still-absent e (i ∷ is) s n a =
+    let f = or-false (eqb (e .hash) (i .hash)) (elem (e .hash) (map (λ x. x .hash) is)) n in
+    let g = or-false (elem (i .hash) (map (λ y. y .hash) (s .entries))) (any (λ x. elem (x .hash) (map (λ y. y .hash) (s .entries))) is) a in
+    rw (absent-insert (i .hash) e s (λ q. eqb-false (e .hash) (i .hash) (f .0) (sym q)) (g .0)) (still-absent e is s (f .1) (g .1))
+
+waits-inserts : (gone : List Waiting) (is : List Entry) (s : State) → Absent is s → Waits gone s → Waits gone (fold insert is s)
+unfolding fold any repeated
+waits-inserts gone [] s a w = w
+waits-inserts gone (e ∷ is) s a w =
+    let f = or-false (elem (e .hash) (map (λ y. y .hash) (s .entries))) (any (λ x. elem (x .hash) (map (λ y. y .hash) (s .entries))) is) (a .0) in
+    let g = or-false (elem (e .hash) (map (λ x. x .hash) is)) (repeated (map (λ x. x .hash) is)) (a .1) in
+    waits-inserts gone is (insert e s) (still-absent e is s (g .0) (f .1), g .1) (waits-insert gone e s (f .0) w)
+
+-- of the rows that were handed out, those whose hashes are not removed
+unfoldable pub stillGone : List ℕ → List Waiting → List Waiting
+stillGone hs gone = fold (λ h. keep (λ w. not (eqb (w .hash) h))) hs gone
+
+pub none-gone : (hs : List ℕ) → stillGone hs [] ≡ []
+unfolding stillGone fold keep
+none-gone [] = refl
+none-gone (h ∷ hs) = none-gone hs
+
+waits-removes : (gone : List Waiting) (hs : List ℕ) (s : State) → Waits gone s → Waits (stillGone hs gone) (fold remove hs s)
+unfolding fold stillGone
+waits-removes gone [] s w = w
+waits-removes gone (h ∷ hs) s w = waits-removes (keep (λ x. not (eqb (x .hash) h)) gone) hs (remove h s) (waits-remove gone h s w)
+
+pub waits-after : (gone : List Waiting) (d : Delta) (s : State) → present s d ≡ false → Waits gone s → Waits (stillGone (d .removes) gone) (stateAfter d s)
+unfolding stateAfter present
+waits-after gone d s p w =
+    let f = or-false (any (λ e. elem (e .hash) (map (λ x. x .hash) (s .entries))) (d .inserts)) (repeated (map (λ e. e .hash) (d .inserts))) p in
+    waits-removes gone (d .removes) (fold insert (d .inserts) s) (waits-inserts gone (d .inserts) s (f .0, f .1) w)
