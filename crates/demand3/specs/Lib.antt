@@ -4,3 +4,4 @@ pub mod States
 pub mod CountersHeld
 pub mod NurseryHeld
 pub mod Holding
+pub mod Agreement
