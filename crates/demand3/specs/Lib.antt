@@ -5,3 +5,5 @@ pub mod CountersHeld
 pub mod NurseryHeld
 pub mod Holding
 pub mod Agreement
+pub mod Outputs
+pub mod Listings
