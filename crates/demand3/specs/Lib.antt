@@ -7,3 +7,4 @@ pub mod Holding
 pub mod Agreement
 pub mod Outputs
 pub mod Listings
+pub mod Snapshots
