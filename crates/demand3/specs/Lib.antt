@@ -8,3 +8,4 @@ pub mod Agreement
 pub mod Outputs
 pub mod Listings
 pub mod Snapshots
+pub mod Trace

@@ -110,8 +110,8 @@ list-bytes f ok h (suc n) bs b =
 
 -- a delta that was read
 pub record Read (inserts removes : ℕ) (d : Delta) : Type 0 where
-  number-inserts : length (d .inserts) ≡ inserts
-  number-removes : length (d .removes) ≡ removes
+  pub number-inserts : length (d .inserts) ≡ inserts
+  pub number-removes : length (d .removes) ≡ removes
   heads : all fitsHead (d .inserts) ≡ true
   pub hashes : all (λ h. ltb h (2 ^ 256)) (d .removes) ≡ true
 
