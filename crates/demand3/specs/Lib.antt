@@ -9,3 +9,5 @@ pub mod Outputs
 pub mod Listings
 pub mod Snapshots
 pub mod Trace
+pub mod Rebuilding
+pub mod Proof
