@@ -1,20 +1,20 @@
 -- In a nursery that started empty the waiting rows, with those that were handed out, are the entries' rows in some order.
 -- So there are never more waiting rows than entries, and as many where nothing was handed out.
 -- Assumes nothing.
-use mathlib.Core.Path.{_≡_, refl, sym, ap, _∙_}
+use mathlib.Core.Path.{_≡_, refl, sym, ap, subst, _∙_}
 use mathlib.Core.Bool.{Bool, true, false, not, _||_}
 use mathlib.Core.Option.{none, some}
-use mathlib.Core.List.{List, [], _∷_, _++_, map, append-assoc, append-nil, map-append}
-use mathlib.Core.List.{List·Permᴰ as Reordered, List·Permᴰ·nil as order-nil, List·Permᴰ·cons as order-cons, List·Permᴰ·trans as order-trans, Permᴰ·refl, Permᴰ·symm, Permᴰ·append-right, Permᴰ·append-left, Permᴰ·middle, Permᴰ·map, List·Permᴰ·append-comm}
-use Prim.Native.Nat.{ℕ, suc, _+_, _≤_}
+use mathlib.Core.List.{List, [], _∷_, _++_, map, append-assoc, map-append, map-map}
+use mathlib.Core.List.{List·Permᴰ as Reordered, List·Permᴰ·nil as order-nil, List·Permᴰ·cons as order-cons, List·Permᴰ·swap as order-swap, List·Permᴰ·trans as order-trans, Permᴰ·refl, Permᴰ·symm, Permᴰ·append-right, Permᴰ·append-left, Permᴰ·middle, Permᴰ·map, List·Permᴰ·append-comm}
+use Prim.Native.Nat.{ℕ, suc, _+_, _<_}
 use native.Mathlib.Omega.{arith}
 use native.Mathlib.Decide.{decLe, ℕ-discrete}
 use lib.ListN.{length, length-append, length-map}
 use lib.Dec.{leb, ltb, eqb}
 use borrow.Author.Tests.{lt-ltb, le-ltb, le-leb, lt-leb, ne-eqb, eqb-false, eqb-true, not-true, not-false}
-use Rattle.base.specs.Logic.{pick, all, any, elem, keep, fold, repeated}
-use Rattle.base.specs.Laws.{and-left, and-right, and-both}
-use Rattle.base.specs.ListLaws.{or-false, keep-append, keep-order, length-order, eqb-sym}
+use Rattle.base.specs.Logic.{pick, all, any, elem, keep, fold, repeated, ascending, ascendingFrom}
+use Rattle.base.specs.Laws.{and-left, and-right, and-both, ascending-head, ascending-tail}
+use Rattle.base.specs.ListLaws.{or-false, Some, here, there, keep-append, keep-order, length-order, repeated-order, eqb-sym}
 use Rattle.base.specs.SumLaws.{keep-map}
 use Rattle.rows.specs.Keys.{putRows}
 use Rattle.cell_nursery.specs.Entries.{Entry, Waiting, State, empty, putEntry, putWaiting, insert, remove}
@@ -107,6 +107,65 @@ module _ (gone : List Waiting) (s : State) (w : Waits gone s) where
   pub used-waits : used s ≡ length (s .entries)
   unfolding used
   used-waits = omega (arith, number-waits)
+
+-- ---- what a waiting row is
+module _ {A : Type 0} {P : A → Type 0} where
+  some-order : {xs ys : List A} → Reordered xs ys → Some P xs → Some P ys
+  some-order order-nil s = s
+  some-order (order-cons e r) (here p) = here (subst P e p)
+  some-order (order-cons e r) (there s) = there (some-order r s)
+  some-order (order-swap e f) (here p) = there (here (subst P e p))
+  some-order (order-swap e f) (there (here p)) = here (subst P f p)
+  some-order (order-swap e f) (there (there s)) = there (there s)
+  some-order (order-trans r t) s = some-order t (some-order r s)
+
+  some-left : {xs : List A} (ys : List A) → Some P xs → Some P (xs ++ ys)
+  some-left ys (here p) = here p
+  some-left ys (there s) = there (some-left ys s)
+
+some-map : {A B : Type 0} {P : B → Type 0} (f : A → B) (xs : List A) → Some P (map f xs) → Some (λ x. P (f x)) xs
+some-map f [] s = elim s [ ]
+some-map f (x ∷ xs) (here p) = here p
+some-map f (x ∷ xs) (there s) = there (some-map f xs s)
+
+-- a number that is absent from a list is absent from its first part, and from ascending numbers above it
+absent-left : (x : ℕ) (xs ys : List ℕ) → elem x (xs ++ ys) ≡ false → elem x xs ≡ false
+unfolding any
+absent-left x [] ys e = refl
+absent-left x (y ∷ xs) ys e = let f = or-false (eqb x y) (elem x (xs ++ ys)) e in rw (f .0) (absent-left x xs ys (f .1))
+
+absent-above : (x lo : ℕ) (xs : List ℕ) → x < lo → ascendingFrom lo xs ≡ true → elem x xs ≡ false
+unfolding any
+absent-above x lo [] l o = refl
+absent-above x lo (y ∷ xs) l o =
+    let m = ascending-head lo y xs o in
+    rw (ne-eqb x y (omega arith)) (absent-above x (suc y) xs (omega arith) (ascending-tail lo y xs o))
+
+ascending-once : (lo : ℕ) (xs : List ℕ) → ascendingFrom lo xs ≡ true → repeated xs ≡ false
+unfolding repeated
+ascending-once lo [] o = refl
+ascending-once lo (x ∷ xs) o = let t = ascending-tail lo x xs o in rw (absent-above x (suc x) xs (omega arith) t) (ascending-once (suc x) xs t)
+
+-- no number twice in the first part of a list that has none twice
+once-left : (xs ys : List ℕ) → repeated (xs ++ ys) ≡ false → repeated xs ≡ false
+unfolding repeated
+once-left [] ys e = refl
+once-left (x ∷ xs) ys e =
+    let f = or-false (elem x (xs ++ ys)) (repeated (xs ++ ys)) e in
+    rw (absent-left x xs ys (f .0)) (once-left xs ys (f .1))
+
+module _ (gone : List Waiting) (s : State) (w : Waits gone s) where
+  -- it is that of an entry: its hash, with its round
+  pub waits-entry : (x : Waiting) → Some (λ y. y ≡ x) (s .waiting) → Some (λ e. waiterFor e ≡ x) (s .entries)
+  waits-entry x y = some-map waiterFor (s .entries) (some-order w (some-left gone y))
+
+  -- and no hash waits twice
+  pub waits-once : ascending (map (λ e. e .hash) (s .entries)) ≡ true → repeated (map (λ x. x .hash) (s .waiting)) ≡ false
+  waits-once o =
+      let all-rows : repeated (map (λ x. x .hash) (s .waiting ++ gone)) ≡ repeated (map (λ e. e .hash) (s .entries)) =
+      repeated-order (Permᴰ·map (λ x. x .hash) w) ∙ ap repeated (map-map (λ x. x .hash) waiterFor (s .entries)) in
+      once-left (map (λ x. x .hash) (s .waiting)) (map (λ x. x .hash) gone)
+      (ap repeated (sym (map-append (λ x. x .hash) (s .waiting) gone)) ∙ all-rows ∙ ascending-once 0 (map (λ e. e .hash) (s .entries)) o)
 
 -- ---- a whole delta
 -- a hash with no entry is absent
