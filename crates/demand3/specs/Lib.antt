@@ -11,3 +11,5 @@ pub mod Snapshots
 pub mod Trace
 pub mod Rebuilding
 pub mod Proof
+pub mod DeltaRefusals
+pub mod Answered

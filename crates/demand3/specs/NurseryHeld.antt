@@ -93,7 +93,7 @@ not-refused : {r : Refusal} → Taken ≡ Refused r → ⊥
 not-refused e = let z : _≡_ {A = ℕ} 0 1 = cc in omega arith
 
 module _ {le lw lc : ℕ} {r : Nursery} {es ws cs : List ℕ} {s : State} (h : NurseryHeld le lw lc r es ws cs s) where
-  room-same : roomOf es ws cs ≡ roomFor le lw lc
+  pub room-same : roomOf es ws cs ≡ roomFor le lw lc
   unfolding roomOf
   room-same = rw (entries-length h, waiting-length h, cells-length h)
 

@@ -41,7 +41,7 @@ module _ {len : ℕ} {s : counts.State} (b : Box) (h : CountersHeld len (b .coun
   snapshot-is = rw (counters-hold h, counters-state h) (given-zeros (snapshotBytes s))
 
 module _ {le lw lc : ℕ} {s : entries.State} (b : Box) (h : NurseryHeld le lw lc (b .nursery) (b .entries) (b .waiting) (b .cells) s) where
-  entries-are : entriesOf (b .nursery .entries) (b .entries) (b .cells) ≡ s .entries
+  pub entries-are : entriesOf (b .nursery .entries) (b .entries) (b .cells) ≡ s .entries
   unfolding nursery.stateOf
   entries-are = ap (λ (x : entries.State). x .entries) (nursery-state h)
 
