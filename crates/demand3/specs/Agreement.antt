@@ -4,7 +4,7 @@ use mathlib.Core.Path.{_≡_, refl, sym, ap, _∙_}
 use mathlib.Core.Bool.{Bool, true, false}
 use mathlib.Core.Option.{Option, none, some}
 use mathlib.Core.List.{List, [], _∷_}
-use Prim.Native.Nat.{ℕ, _+_, _-_, max}
+use Prim.Native.Nat.{ℕ, max}
 use lib.Dec.{eqb}
 use Rattle.base.specs.Logic.{pick, all, fold}
 use Rattle.base.specs.Laws.{and-left, and-right}
@@ -14,7 +14,7 @@ use Rattle.counters.specs.Counts as counts
 use Rattle.counters.specs.Counts.{storedAt, countAt, fresh}
 use Rattle.counters.specs.declared.CounterTransition.{CounterTransition}
 use Rattle.counters.specs.Batch as batches
-use Rattle.counters.specs.Batch.{kept, births, deaths}
+use Rattle.counters.specs.Batch.{kept}
 use Rattle.counters.specs.BatchLaws.{countAt-countsAfter}
 use Rattle.counters.specs.Layout.{batchOf}
 use Rattle.counters.specs.Maintenance.{standard}
@@ -27,7 +27,7 @@ use Rattle.cell_nursery.specs.Calls.{lengthWidth}
 use Rattle.cell_nursery.specs.EntryLaws.{entryAt, entryAt-put, entryAt-removed}
 use Rattle.node_box.specs.Box.{Box, Call, allocate, batch, delta, drain, get, shrink, serialize, lookup, listing, step, run, accepted, answers}
 use Rattle.node_box.specs.Plain.{Plain, Cell, freshPlain, setAt, plainBatch, plainDelta, plainTaken, plainStep, runPlain}
-use Rattle.node_box.specs.Demand.{typed, History, Typed, start, end, plain}
+use Rattle.node_box.specs.Demand.{typed, History, Typed, end, plain}
 use Rattle.demand3.specs.States.{countersAfter, nurseryAfter}
 use Rattle.demand3.specs.Holding.{Sizes, Holds, sizesOf, holds-start, holds-taken, refused-same}
 

@@ -18,7 +18,7 @@ use Rattle.counters.specs.Batch.{applyBatch}
 use Rattle.counters.specs.Maintenance.{standard}
 use Rattle.counters.specs.Layout.{recordOf, batchOf}
 use Rattle.counters.specs.Calls as counters-calls
-use Rattle.counters.specs.Calls.{allocated, allocCall, getCall, batchCall, decided, shrinkCall}
+use Rattle.counters.specs.Calls.{allocated, allocCall, getCall, batchCall, decided}
 use Rattle.counters.specs.CallLaws.{shrink-held}
 use Rattle.snapshot.specs.Write.{snapshotBytes}
 use Rattle.snapshot.specs.Calls.{serializeCall}
@@ -26,8 +26,7 @@ use Rattle.cell_nursery.specs.declared.Nursery.{Nursery}
 use Rattle.cell_nursery.specs.Entries as entries
 use Rattle.cell_nursery.specs.Delta.{applyDelta}
 use Rattle.cell_nursery.specs.Items.{deltaOf}
-use Rattle.cell_nursery.specs.Drain.{promotionDelay, drained, drainBytes, listingBytes}
-use Rattle.cell_nursery.specs.Layout.{roomOf, stateOf, entriesOf}
+use Rattle.cell_nursery.specs.Drain.{promotionDelay, drainBytes, listingBytes}
 use Rattle.cell_nursery.specs.Calls as nursery-calls
 use Rattle.cell_nursery.specs.Calls.{lengthWidth, deltaCall, drainedOut, drainCall, foundOf, lookupCall, listingCall}
 use Rattle.node_box.specs.Box.{Box, Call, allocate, batch, delta, drain, get, shrink, serialize, lookup, listing, step}

@@ -1,7 +1,7 @@
 -- A box that started fresh always holds a state: after every call its records and tables are those of two states, its tables are as long as
 -- they were, and every waiting row is an entry's.
 -- Assumes nothing.
-use mathlib.Core.Path.{_≡_, refl, sym, ap, _∙_}
+use mathlib.Core.Path.{_≡_, refl}
 use mathlib.Core.Bool.{Bool, true, false, _&&_, true≢false, false≢true}
 use mathlib.Core.List.{List, [], _∷_}
 use Prim.Native.Nat.{ℕ, _^_, _<_}

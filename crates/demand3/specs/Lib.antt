@@ -13,3 +13,4 @@ pub mod Rebuilding
 pub mod Proof
 pub mod DeltaRefusals
 pub mod Answered
+pub mod Refusals

@@ -1,15 +1,14 @@
 -- The calls on a record and tables that are those of a state of the nursery: an accepted call leaves those of the next state, a refused one
 -- leaves them as they were.
 -- Assumes nothing.
-use mathlib.Core.Path.{_≡_, refl, sym, ap, _∙_}
-use mathlib.Core.Bool.{Bool, true, false, not}
+use mathlib.Core.Path.{_≡_, refl, sym, _∙_}
+use mathlib.Core.Bool.{Bool, true}
 use mathlib.Core.Option.{Option, none, some}
 use mathlib.Core.List.{List, []}
-use Prim.Native.Nat.{ℕ, _+_, _/_, _^_, _≤_, _<_, min}
+use Prim.Native.Nat.{ℕ, _/_, _^_, _≤_, _<_, min}
 use native.Mathlib.Omega.{arith}
 use lib.ListN.{length}
-use lib.Dec.{ltb}
-use Rattle.base.specs.Logic.{all, sumOf, overlay}
+use Rattle.base.specs.Logic.{sumOf}
 use Rattle.base.specs.SumLaws.{length-keep}
 use Rattle.base.specs.Answers.{Outcome, refused, taken, _>>=_, orRefuse}
 use Rattle.base.specs.Output.{fitting}
@@ -24,9 +23,9 @@ use Rattle.cell_nursery.specs.Drain.{promotionDelay, due, drained, drainBytes}
 use Rattle.cell_nursery.specs.Layout.{recordOf, entriesTable, waitingTable, cellsTable, roomOf, stateOf, holds, holdsEntries, holdsCells}
 use Rattle.cell_nursery.specs.LayoutLaws.{WellFormed, length-entriesTable, length-waitingTable, length-cellsTable, stateOf-laid, holds-laid, entries-laid, cells-laid}
 use Rattle.cell_nursery.specs.EntryLaws.{well-empty, well-after, well-drained, InRoom, room-after}
-use Rattle.cell_nursery.specs.Calls.{Changed, DrainedOut, laid, laidOut, onState, newCall, lengthWidth, deltaCall, drainedOut, drainCall}
+use Rattle.cell_nursery.specs.Calls.{DrainedOut, laid, laidOut, onState, newCall, lengthWidth, deltaCall, drainedOut, drainCall}
 use Rattle.journal_laws.specs.WaitLaws.{Waits, waits-empty, waits-after, waits-drained, stillGone}
-use Rattle.journal_laws.specs.DeltaLaws.{Bytes, Accepted, Read, delta-read, delta-fits, taken-accepted}
+use Rattle.journal_laws.specs.DeltaLaws.{Bytes, Accepted, delta-read, delta-fits, taken-accepted}
 use Rattle.format.specs.RecordLaws.{Fits}
 use Rattle.node_box.specs.Box.{delta, drain}
 use Rattle.demand3.specs.States.{nurseryAfter}

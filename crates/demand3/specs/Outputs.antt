@@ -1,13 +1,11 @@
 -- What the snapshot and the listing of a box are, given an output long enough: the bytes of the states that the box holds.
 -- Assumes nothing.
-use mathlib.Core.Path.{_≡_, refl, ap, _∙_}
-use mathlib.Core.Bool.{_&&_}
+use mathlib.Core.Path.{_≡_, refl, ap}
 use mathlib.Core.List.{List}
 use Prim.Native.Nat.{ℕ, _≤_}
 use native.Mathlib.Omega.{arith}
 use lib.ListN.{length, drop, length-replicate}
 use lib.Seq.{take-at}
-use lib.Dec.{ltb}
 use borrow.Author.Tests.{le-ltb}
 use Rattle.base.specs.Logic.{zeros, overlay}
 use Rattle.base.specs.Answers.{taken}
@@ -18,7 +16,6 @@ use Rattle.counters.specs.Calls.{onState}
 use Rattle.snapshot.specs.Write.{snapshotBytes}
 use Rattle.snapshot.specs.Calls.{serializeCall}
 use Rattle.cell_nursery.specs.Entries as entries
-use Rattle.cell_nursery.specs.Entries.{Entry}
 use Rattle.cell_nursery.specs.Drain.{listingBytes}
 use Rattle.cell_nursery.specs.Layout as nursery
 use Rattle.cell_nursery.specs.Layout.{entriesOf}

@@ -2,19 +2,17 @@
 -- Assumes nothing.
 use mathlib.Core.Path.{_≡_, refl, sym, ap, _∙_}
 use mathlib.Core.List.{List, [], map}
-use Prim.Native.Nat.{ℕ, _+_, _/_, _≤_}
+use Prim.Native.Nat.{ℕ, _≤_}
 use native.Mathlib.Omega.{arith}
 use lib.ListN.{length, take, length-map}
 use Rattle.base.specs.Logic.{flat}
-use Rattle.base.specs.declared.Answer.the-variants.{Taken}
 use Rattle.blake3.specs.Spec.{hash}
 use Rattle.blake3.specs.Equations.{length-hash}
 use Rattle.counters.specs.Counts as counts
 use Rattle.counters.specs.Maintenance.{standard}
 use Rattle.counters.specs.Calls as counters-calls
-use Rattle.snapshot.specs.Write.{snapshotBytes}
 use Rattle.snapshot.specs.Calls.{deserializeCall}
-use Rattle.snapshot_laws.specs.RoundTrip.{WellFormed, renewed, snapshot-same}
+use Rattle.snapshot_laws.specs.RoundTrip.{renewed, snapshot-same}
 use Rattle.snapshot_laws.specs.CallLaws.{deserialize-written}
 use Rattle.cell_nursery.specs.Entries as entries
 use Rattle.cell_nursery.specs.Entries.{empty}
@@ -23,13 +21,13 @@ use Rattle.cell_nursery.specs.Drain.{listingBytes}
 use Rattle.cell_nursery.specs.Layout.{recordOf, roomOf}
 use Rattle.cell_nursery.specs.Calls.{laid}
 use Rattle.cell_nursery.specs.EntryLaws.{well-empty}
-use Rattle.journal.specs.Journal.{End, readJournal, readCall}
+use Rattle.journal.specs.Journal.{readJournal, readCall}
 use Rattle.journal_laws.specs.WaitLaws.{Waits, waits-empty, number-waits}
 use Rattle.journal_laws.specs.ReadLaws.{endOf, applies-whole, applied-waits, applied-well, applied-fits, journal-cut}
 use Rattle.node_box.specs.Box.{snapshotOf, listingOf}
 use Rattle.node_box.specs.Journal.{Logged, records, journalOf, whole, listingAfter, rebuild, cutEnd}
 use Rattle.node_box.specs.Demand.{History, Typed, start, end, wholeOf, wholeBytes, readBack, Rebuilt}
-use Rattle.demand3.specs.CountersHeld.{CountersHeld, laid-counters, counters-state}
+use Rattle.demand3.specs.CountersHeld.{CountersHeld, laid-counters}
 use Rattle.demand3.specs.NurseryHeld.{NurseryHeld, roomFor, laid-held, empty-fits}
 use Rattle.demand3.specs.Holding.{sizesOf, holds-start, holding}
 use Rattle.demand3.specs.Outputs.{snapshot-is, listing-is}

@@ -1,8 +1,7 @@
 -- Claim 1: two boxes have one snapshot exactly when their plain boxes agree on next, live and the count at each allocated index.
 -- Assumes nothing.
-use mathlib.Core.Path.{_≡_, refl, sym, _∙_}
+use mathlib.Core.Path.{_≡_, sym, _∙_}
 use mathlib.Core.Logic.{_↔_}
-use Prim.Native.Nat.{ℕ, _<_}
 use Rattle.snapshot_laws.specs.RoundTrip.{snapshot-counts}
 use Rattle.node_box.specs.Box.{snapshotOf}
 use Rattle.node_box.specs.Demand.{History, Typed, end, plain, SameCounts}

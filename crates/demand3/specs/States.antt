@@ -1,6 +1,6 @@
 -- What an accepted call makes of the two states that a box holds.
 -- Assumes nothing.
-use Prim.Native.Nat.{ℕ, _+_}
+use Prim.Native.Nat.{_+_}
 use Rattle.base.specs.Maybe.{maybe}
 use Rattle.counters.specs.Counts as counts
 use Rattle.counters.specs.Maintenance.{standard, decide, shrunk}

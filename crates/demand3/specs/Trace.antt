@@ -5,9 +5,9 @@ use mathlib.Core.Path.{_≡_, refl, sym, ap, _∙_}
 use mathlib.Core.Bool.{Bool, true, false, not}
 use mathlib.Core.Option.{some}
 use mathlib.Core.List.{List, [], _∷_, _++_, map}
-use Prim.Native.Nat.{ℕ, _+_, _-_, _^_, _<_}
+use Prim.Native.Nat.{ℕ, _+_, _-_}
 use native.Mathlib.Omega.{arith}
-use lib.ListN.{length, drop, take, length-replicate}
+use lib.ListN.{length, drop, length-replicate}
 use lib.Seq.{take-at}
 use lib.Dec.{leb, eqb}
 use borrow.Author.Tests.{le-ltb, eqb-true}
@@ -27,7 +27,7 @@ use Rattle.journal_laws.specs.WaitLaws.{Waits, waits-after, none-gone}
 use Rattle.journal_laws.specs.DeltaLaws.{Accepted, Read, delta-read}
 use Rattle.journal_laws.specs.ReadLaws.{accepted-again, bytesOf, wholeIn, applied-all, Applies, done, more}
 use Rattle.node_box.specs.Box.{Box, Call, allocate, batch, delta, drain, get, shrink, serialize, lookup, listing, step, accepted, listingOf}
-use Rattle.node_box.specs.Journal.{Logged, encoded, loggedOf, records, journalOf, whole, listingAfter}
+use Rattle.node_box.specs.Journal.{Logged, encoded, loggedOf, records, whole, listingAfter}
 use Rattle.node_box.specs.Demand.{typed}
 use Rattle.demand3.specs.States.{countersAfter, nurseryAfter}
 use Rattle.demand3.specs.NurseryHeld.{roomFor, DeltaTaken, delta-taken, delta-carried}

@@ -1,6 +1,6 @@
 -- A delta that is read from bytes, and is not too long, is one that a record can carry.
 -- Assumes nothing.
-use mathlib.Core.Path.{_≡_, refl, sym, ap, _∙_}
+use mathlib.Core.Path.{_≡_, refl, ap, _∙_}
 use mathlib.Core.Bool.{Bool, true, false, _&&_, _||_}
 use mathlib.Core.Option.{Option, none, some}
 use mathlib.Core.List.{List, [], _∷_, _++_, reverse, reverse-cons}
@@ -9,14 +9,14 @@ use native.Mathlib.Omega.{arith}
 use lib.ListN.{length, take, drop, length-append, length-reverse, take-append-drop}
 use lib.Seq.{length-take-le}
 use lib.Dec.{leb, ltb}
-use borrow.Author.Tests.{ltb-true, lt-ltb, leb-true, le-leb, ltb-false}
+use borrow.Author.Tests.{lt-ltb, leb-true, le-leb, ltb-false}
 use Rattle.base.specs.Logic.{all, any, flat, max32}
 use Rattle.base.specs.Maybe.{_>>=_, ensure}
 use Rattle.base.specs.Maybe.{_>>_ as _then_}
 use Rattle.base.specs.Answers.{taken, _>>_, refuseIf}
 use Rattle.base.specs.OutcomeLaws.{refused-taken, taken-same}
 use Rattle.base.specs.declared.Refusal.the-variants.{Present, NurseryFull, TooLong}
-use Rattle.base.specs.Bytes.{number, digits, cut, readLe, readList}
+use Rattle.base.specs.Bytes.{cut, readLe, readList}
 use Rattle.base.specs.Laws.{and-left, and-right, and-both, length-digits}
 use Rattle.base.specs.ListLaws.{or-false, all-append}
 use Rattle.base.specs.SumLaws.{all-one}
