@@ -66,7 +66,7 @@ unfolding stateAfter fold
 idle inserts removes d s r z = rw (no-items (d .inserts) (omega (arith, r .number-inserts)), no-items (d .removes) (omega (arith, r .number-removes)))
 
 module _ (hash : List ℕ → List ℕ) where
-  -- its record
+  -- its record, as the journal has it
   abbrev pub logged : Step → Logged
   logged s = record { bytes = recordBytes hash (s .id) (s .change); after = s .after }
 
