@@ -23,7 +23,7 @@ use Rattle.cell_nursery.specs.Drain.{promotionDelay, due, drained, drainBytes}
 use Rattle.cell_nursery.specs.Layout.{recordOf, entriesTable, waitingTable, cellsTable, roomOf, stateOf, holds, holdsEntries, holdsCells}
 use Rattle.cell_nursery.specs.LayoutLaws.{WellFormed, length-entriesTable, length-waitingTable, length-cellsTable, stateOf-laid, holds-laid, entries-laid, cells-laid}
 use Rattle.cell_nursery.specs.EntryLaws.{well-empty, well-after, well-drained, InRoom, room-after}
-use Rattle.cell_nursery.specs.Calls.{DrainedOut, laid, laidOut, onState, newCall, lengthWidth, deltaCall, drainedOut, drainCall}
+use Rattle.cell_nursery.specs.Calls.{Changed, DrainedOut, laid, laidOut, onState, newCall, lengthWidth, deltaCall, drainedOut, drainCall}
 use Rattle.journal_laws.specs.WaitLaws.{Waits, waits-empty, waits-after, waits-drained, stillGone}
 use Rattle.journal_laws.specs.DeltaLaws.{Bytes, Accepted, delta-read, delta-fits, taken-accepted}
 use Rattle.format.specs.RecordLaws.{Fits}
@@ -66,13 +66,18 @@ module _ {le lw lc : ℕ} {r : Nursery} {es ws cs : List ℕ} {s : State} (h : N
   pub cells-length : length cs ≡ lc
   cells-length = rw (h .same-cells) (length-cellsTable s le lw lc (h .well) (h .rows-fit) (h .cells-fit))
 
+-- the same of what a call returns and leaves
+abbrev pub ChangedHeld : ℕ → ℕ → ℕ → Changed → State → Type 0
+ChangedHeld le lw lc x s = NurseryHeld le lw lc (x .result .nursery) (x .entries) (x .waiting) (x .cells) s
+
 -- what tables of given lengths have room for
 abbrev pub roomFor : ℕ → ℕ → ℕ → Room
 roomFor le lw lc = record { entries = min (le / 8) (lw / 5); cells = lc }
 
 -- a state laid out
-pub laid-held : (es ws cs : List ℕ) (s : State) (gone : List Waiting) → WellFormed s → InRoom (roomFor (length es) (length ws) (length cs) .entries) (length cs) s → Waits gone s
-    → NurseryHeld (length es) (length ws) (length cs) (laid es ws cs s .result .nursery) (laid es ws cs s .entries) (laid es ws cs s .waiting) (laid es ws cs s .cells) s
+pub laid-held : (es ws cs : List ℕ) (s : State) (gone : List Waiting)
+    → WellFormed s → InRoom (roomFor (length es) (length ws) (length cs) .entries) (length cs) s → Waits gone s
+    → ChangedHeld (length es) (length ws) (length cs) (laid es ws cs s) s
 unfolding laid
 laid-held es ws cs s gone w i x =
     record { same-record = refl; same-entries = refl; same-waiting = refl; same-cells = refl; well = w; rows-fit = i .rows-fit; cells-fit = i .bytes-fit; gone = gone; waits = x }
@@ -82,8 +87,7 @@ pub empty-fits : (rows bytes : ℕ) → InRoom rows bytes empty
 unfolding empty used cellBytes sumOf
 empty-fits rows bytes = record { rows-fit = omega arith; bytes-fit = omega arith }
 
-pub new-nursery : (es ws cs : List ℕ)
-    → NurseryHeld (length es) (length ws) (length cs) (newCall es ws cs .result .nursery) (newCall es ws cs .entries) (newCall es ws cs .waiting) (newCall es ws cs .cells) empty
+pub new-nursery : (es ws cs : List ℕ) → ChangedHeld (length es) (length ws) (length cs) (newCall es ws cs) empty
 unfolding newCall
 new-nursery es ws cs = laid-held es ws cs empty [] well-empty (empty-fits _ _) waits-empty
 
@@ -142,13 +146,14 @@ module _ {le lw lc : ℕ} {r : Nursery} {es ws cs : List ℕ} {s : State} (h : N
     delta-carried id i b t = delta-fits id inserts removes (t .change) i (delta-read (lengthWidth wide) inserts removes items (t .change) b (t .spelled)) (t .accepted .short)
 
     pub delta-held : (id : ℕ) → Bytes items → DeltaTaken
-        → NurseryHeld le lw lc (deltaCall r es ws cs wide inserts removes items .result .nursery) (deltaCall r es ws cs wide inserts removes items .entries)
-        (deltaCall r es ws cs wide inserts removes items .waiting) (deltaCall r es ws cs wide inserts removes items .cells) (nurseryAfter (delta id wide inserts removes items) s)
+        → ChangedHeld le lw lc (deltaCall r es ws cs wide inserts removes items) (nurseryAfter (delta id wide inserts removes items) s)
     unfolding nurseryAfter
     delta-held id b t =
-        let f = delta-carried 0 (omega arith) b t in
-        let fit = room-after (roomFor le lw lc) (t .change) s (t .accepted .fits) in
-        let out = laid-held es ws cs (stateAfter (t .change) s) (stillGone (t .change .removes) (h .gone)) (well-after (t .change) s (f .inserts) (h .well)) (rw (entries-length h, waiting-length h, cells-length h) fit) (waits-after (h .gone) (t .change) s (t .accepted .new) (h .waits)) in
+        let d = t .change in
+        let well = well-after d s (delta-carried 0 (omega arith) b t .inserts) (h .well) in
+        let fit = room-after (roomFor le lw lc) d s (t .accepted .fits) in
+        let waits = waits-after (h .gone) d s (t .accepted .new) (h .waits) in
+        let out = laid-held es ws cs (stateAfter d s) (stillGone (d .removes) (h .gone)) well (rw (entries-length h, waiting-length h, cells-length h) fit) waits in
         rw (t .spelled, t .result) (rw (entries-length h, waiting-length h, cells-length h) at out)
 
   -- ---- draining

@@ -10,5 +10,5 @@ demand3 =
     record {
       snapshots = λ a b ta tb la lb. snapshots a b ta tb;
       listings = listings;
-      rebuilt = λ a ta k l t es ws cs lt le lw lc. rebuilt a ta k l es ws cs le lw lc t lt;
+      rebuilt = rebuilt;
     }

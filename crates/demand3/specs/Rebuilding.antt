@@ -1,6 +1,6 @@
 -- Claim 3: the box read in from a box's snapshot and the first bytes of its journal.
 -- Assumes nothing.
-use mathlib.Core.Path.{_≡_, refl, sym, ap, _∙_}
+use mathlib.Core.Path.{_≡_, refl, sym, ap, subst, _∙_}
 use mathlib.Core.List.{List, [], map}
 use Prim.Native.Nat.{ℕ, _≤_}
 use native.Mathlib.Omega.{arith}
@@ -21,14 +21,14 @@ use Rattle.cell_nursery.specs.Drain.{listingBytes}
 use Rattle.cell_nursery.specs.Layout.{recordOf, roomOf}
 use Rattle.cell_nursery.specs.Calls.{laid}
 use Rattle.cell_nursery.specs.EntryLaws.{well-empty}
-use Rattle.journal.specs.Journal.{readJournal, readCall}
+use Rattle.journal.specs.Journal.{End, readJournal, readCall}
 use Rattle.journal_laws.specs.WaitLaws.{Waits, waits-empty, number-waits}
-use Rattle.journal_laws.specs.ReadLaws.{endOf, applies-whole, applied-waits, applied-well, applied-fits, journal-cut}
-use Rattle.node_box.specs.Box.{snapshotOf, listingOf}
+use Rattle.journal_laws.specs.ReadLaws.{endOf, Applies, applies-whole, applied-waits, applied-well, applied-fits, journal-cut}
+use Rattle.node_box.specs.Box.{Box, snapshotOf, listingOf}
 use Rattle.node_box.specs.Journal.{Logged, records, journalOf, whole, listingAfter, rebuild, cutEnd}
 use Rattle.node_box.specs.Demand.{History, Typed, start, end, wholeOf, wholeBytes, readBack, Rebuilt}
 use Rattle.demand3.specs.CountersHeld.{CountersHeld, laid-counters}
-use Rattle.demand3.specs.NurseryHeld.{NurseryHeld, roomFor, laid-held, empty-fits}
+use Rattle.demand3.specs.NurseryHeld.{NurseryHeld, ChangedHeld, roomFor, laid-held, empty-fits}
 use Rattle.demand3.specs.Holding.{sizesOf, holds-start, holding}
 use Rattle.demand3.specs.Outputs.{snapshot-is, listing-is}
 use Rattle.demand3.specs.Trace.{Step, logged, Traced, traced, wholeSteps, stepBytes, afterSteps, bytes-logged, whole-logged, listed-whole, listing-last}
@@ -52,80 +52,90 @@ module _ (a : History) (ok : Typed a) (k : ℕ) (short : k ≤ length (journalOf
   bytes-are : wholeBytes a k ≡ length (stepBytes hash applied-steps)
   bytes-are = ap (λ (rs : List Logged). length (flat (λ r. r .bytes) rs)) whole-is ∙ ap length (bytes-logged hash applied-steps)
 
-  -- the nursery after them
+  -- they are accepted in tables of the same lengths
+  abbrev room : Room
+  room = roomFor (length (a .entries)) (length (a .waiting)) (length (a .cells))
+
+  applies : Applies hash (λ s. s .id) (λ s. s .change) room empty applied-steps
+  unfolding applied-steps
+  applies = applies-whole hash (λ s. s .id) (λ s. s .change) room (trace .applies) k
+
+  -- the nursery after them, in which every entry waits
   state : entries.State
   state = afterSteps hash applied-steps empty
 
-  module _ (es ws cs : List ℕ) (le : length es ≡ length (a .entries)) (lw : length ws ≡ length (a .waiting)) (lc : length cs ≡ length (a .cells)) where
-    room : roomOf es ws cs ≡ roomFor (length (a .entries)) (length (a .waiting)) (length (a .cells))
-    unfolding roomOf
-    room = rw (le, lw, lc)
+  all-wait : Waits [] state
+  unfolding state
+  all-wait = applied-waits hash (λ s. s .id) (λ s. s .change) room applies waits-empty
 
-    -- what the reading gives
+  module _ (t es ws cs : List ℕ) (lt : length t ≡ length (a .counts)) (le : length es ≡ length (a .entries))
+      (lw : length ws ≡ length (a .waiting)) (lc : length cs ≡ length (a .cells)) where
+    -- ---- the nursery, read from the journal
+    room-same : roomOf es ws cs ≡ room
+    unfolding roomOf
+    room-same = rw (le, lw, lc)
+
     reading : readJournal hash (roomOf es ws cs) (take k (journalOf hash (start a) (a .calls)))
         ≡ record { state = state; applied = length applied-steps; place = length (stepBytes hash applied-steps); ended = endOf (length (stepBytes hash applied-steps)) k }
     unfolding state applied-steps
-    reading = rw (room, journal-is) (journal-cut hash (λ s. s .id) (λ s. s .change) (roomFor (length (a .entries)) (length (a .waiting)) (length (a .cells))) length-hash (trace .steps) (trace .applies) k (rw journal-is at short))
+    reading =
+        rw (room-same, journal-is)
+        (journal-cut hash (λ s. s .id) (λ s. s .change) room length-hash (trace .steps) (trace .applies) k (rw journal-is at short))
 
-    -- every entry waits
-    all-wait : Waits [] state
-    unfolding state applied-steps
-    all-wait =
-        let m : Room = roomFor (length (a .entries)) (length (a .waiting)) (length (a .cells)) in
-        applied-waits hash (λ s. s .id) (λ s. s .change) m (applies-whole hash (λ s. s .id) (λ s. s .change) m (trace .applies) k) waits-empty
-
-    nursery-read : NurseryHeld (length es) (length ws) (length cs) (laid es ws cs state .result .nursery) (laid es ws cs state .entries) (laid es ws cs state .waiting) (laid es ws cs state .cells) state
-    unfolding state applied-steps
+    nursery-read : ChangedHeld (length es) (length ws) (length cs) (laid es ws cs state) state
+    unfolding state
     nursery-read =
-        let m : Room = roomFor (length (a .entries)) (length (a .waiting)) (length (a .cells)) in
-        let some = applies-whole hash (λ s. s .id) (λ s. s .change) m (trace .applies) k in
-        laid-held es ws cs state [] (applied-well hash (λ s. s .id) (λ s. s .change) m some well-empty)
-        (rw (le, lw, lc) (applied-fits hash (λ s. s .id) (λ s. s .change) m some (empty-fits (m .entries) (m .cells))))
-        all-wait
+        laid-held es ws cs state [] (applied-well hash (λ s. s .id) (λ s. s .change) room applies well-empty)
+        (rw (le, lw, lc) (applied-fits hash (λ s. s .id) (λ s. s .change) room applies (empty-fits (room .entries) (room .cells)))) all-wait
 
-    -- the counters, read from the snapshot
-    module _ (t : List ℕ) (lt : length t ≡ length (a .counts)) where
-      counters : counts.State
-      counters = holding a ok .counters
+    -- ---- the counters, read from the snapshot
+    counters : counts.State
+    counters = holding a ok .counters
 
-      was-held : CountersHeld (length (a .counts)) (end a .counters) (end a .counts) counters
-      unfolding counters
-      was-held = holding a ok .holds .counters
+    was-held : CountersHeld (length (a .counts)) (end a .counters) (end a .counts) counters
+    unfolding counters
+    was-held = holding a ok .holds .counters
 
-      counters-read : deserializeCall (standard .base) (snapshotOf (end a)) t ≡ counters-calls.laid (length t) (renewed (standard .base) counters)
-      counters-read = rw (snapshot-is (end a) was-held) (deserialize-written (standard .base) counters (was-held .well) t (rw lt (was-held .fits)))
+    abbrev renewedCounters : counts.State
+    renewedCounters = renewed (standard .base) counters
 
-      counters-held : CountersHeld (length t) (deserializeCall (standard .base) (snapshotOf (end a)) t .result .counters) (deserializeCall (standard .base) (snapshotOf (end a)) t .table) (renewed (standard .base) counters)
-      counters-held =
-          let w = was-held .well in
-          rw counters-read
-          (laid-counters (length t) (renewed (standard .base) counters) (rw lt (was-held .fits))
-          (record { next-fits = w .next-fits; live-fits = w .live-fits; sorted = w .sorted; counts-fit = w .counts-fit }))
+    counters-read : deserializeCall (standard .base) (snapshotOf (end a)) t ≡ counters-calls.laid (length t) renewedCounters
+    counters-read = rw (snapshot-is (end a) was-held) (deserialize-written (standard .base) counters (was-held .well) t (rw lt (was-held .fits)))
 
-      -- the nursery that the reading leaves is that of the state
-      nursery-held : NurseryHeld (length es) (length ws) (length cs) (readBack a k t es ws cs .box .nursery) (readBack a k t es ws cs .box .entries) (readBack a k t es ws cs .box .waiting) (readBack a k t es ws cs .box .cells) state
-      unfolding readBack rebuild readCall
-      nursery-held = rw reading nursery-read
+    -- ---- the box of both
+    abbrev box : Box
+    box = readBack a k t es ws cs .box
 
-      listing-read : listingOf (readBack a k t es ws cs .box) ≡ listingAfter [] (wholeOf a k)
-      unfolding state applied-steps listingBytes empty flat
-      listing-read =
-          listing-is (readBack a k t es ws cs .box) nursery-held ∙ sym (listing-last hash (listed-whole hash (trace .listed) k))
-          ∙ ap (λ (rs : List Logged). listingAfter [] rs) (sym whole-is)
+    counters-held : CountersHeld (length t) (box .counters) (box .counts) renewedCounters
+    unfolding readBack rebuild
+    counters-held =
+        let w = was-held .well in
+        subst (λ (r : counters-calls.Changed). CountersHeld (length t) (r .result .counters) (r .table) renewedCounters) (sym counters-read)
+        (laid-counters (length t) renewedCounters (rw lt (was-held .fits))
+        (record { next-fits = w .next-fits; live-fits = w .live-fits; sorted = w .sorted; counts-fit = w .counts-fit }))
 
-      pub rebuilt : Rebuilt a k t es ws cs
-      unfolding readBack rebuild readCall cutEnd recordOf laid counters-calls.laid
-      rebuilt =
-          record {
-            answer = λ l. ap (λ (r : counters-calls.Changed). r .result .answer) counters-read;
-            snapshot =
-                λ l.
-                snapshot-is (readBack a k t es ws cs .box) counters-held
-                ∙ snapshot-same (renewed (standard .base) counters) counters refl refl refl
-                ∙ sym (snapshot-is (end a) was-held);
-            listing = listing-read;
-            applied = rw (reading, whole-is) (sym (length-map applied-steps (logged hash)));
-            place = rw reading (sym bytes-are);
-            ended = rw (reading, bytes-are);
-            waiting = rw reading (omega (arith, number-waits [] state all-wait));
-          }
+    nursery-held : NurseryHeld (length es) (length ws) (length cs) (box .nursery) (box .entries) (box .waiting) (box .cells) state
+    unfolding readBack rebuild readCall
+    nursery-held = subst (λ (e : End). ChangedHeld (length es) (length ws) (length cs) (laid es ws cs (e .state)) state) (sym reading) nursery-read
+
+    snapshot-read : snapshotOf box ≡ snapshotOf (end a)
+    snapshot-read = snapshot-is box counters-held ∙ snapshot-same renewedCounters counters refl refl refl ∙ sym (snapshot-is (end a) was-held)
+
+    listing-read : listingOf box ≡ listingAfter [] (wholeOf a k)
+    unfolding state applied-steps listingBytes empty flat
+    listing-read =
+        listing-is box nursery-held ∙ sym (listing-last hash (listed-whole hash (trace .listed) k))
+        ∙ ap (λ (rs : List Logged). listingAfter [] rs) (sym whole-is)
+
+    pub rebuilt : Rebuilt a k t es ws cs
+    unfolding readBack rebuild readCall cutEnd recordOf laid counters-calls.laid
+    rebuilt =
+        record {
+          answer = λ l. ap (λ (r : counters-calls.Changed). r .result .answer) counters-read;
+          snapshot = λ l. snapshot-read;
+          listing = listing-read;
+          applied = rw (reading, whole-is) (sym (length-map applied-steps (logged hash)));
+          place = rw reading (sym bytes-are);
+          ended = rw (reading, bytes-are);
+          waiting = rw reading (omega (arith, number-waits [] state all-wait));
+        }

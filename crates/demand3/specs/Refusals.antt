@@ -25,7 +25,8 @@ use Rattle.counters.specs.declared.CounterTransition.{CounterTransition}
 use Rattle.counters.specs.Counts as counts
 use Rattle.counters.specs.Batch.{applyBatch}
 use Rattle.counters.specs.Layout.{transitionRow, batchOf}
-use Rattle.counters.specs.RefusalLaws.{ChangesUnallocated, NamesTwice, HasFalseOld, LeavesTotal, ExceedsTable, allocate-spent, allocate-numbers, get-unallocated, get-numbers, batch-unallocated, batch-repeated, batch-false-old, batch-off-total, batch-table-full, batch-numbers}
+use Rattle.counters.specs.RefusalLaws.{ChangesUnallocated, NamesTwice, HasFalseOld, LeavesTotal, ExceedsTable}
+use Rattle.counters.specs.RefusalLaws.{allocate-spent, allocate-numbers, get-unallocated, get-numbers, batch-unallocated, batch-repeated, batch-false-old, batch-off-total, batch-table-full, batch-numbers}
 use Rattle.snapshot.specs.Write.{snapshotBytes}
 use Rattle.cell_nursery.specs.Entries as entries
 use Rattle.cell_nursery.specs.Items.{Delta, deltaOf}

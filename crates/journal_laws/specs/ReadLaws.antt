@@ -171,7 +171,8 @@ module _ (hash : List ℕ → List ℕ) {A : Type 0} (id : A → ℕ) (delta : A
             | yes l ↦
                 let b : ℕ = length (bytesOf x) in
                 let q : k ≡ b + (k - b) = omega arith in
-                let cut : take k (bytesOf x ++ flat bytesOf xs) ≡ bytesOf x ++ take (k - b) (flat bytesOf xs) = ap (λ (i : ℕ). take i (bytesOf x ++ flat bytesOf xs)) q ∙ take-append-add (bytesOf x) (flat bytesOf xs) (k - b) in
+                let cut : take k (bytesOf x ++ flat bytesOf xs) ≡ bytesOf x ++ take (k - b) (flat bytesOf xs) =
+                ap (λ (i : ℕ). take i (bytesOf x ++ flat bytesOf xs)) q ∙ take-append-add (bytesOf x) (flat bytesOf xs) (k - b) in
                 rw (le-leb b k l, cut)
                 (read-whole s x (take (k - b) (flat bytesOf xs)) applied place f a
                 ∙ read-cut r (suc applied) (place + b) (k - b) (omega (arith, length-append (bytesOf x) (flat bytesOf xs)))

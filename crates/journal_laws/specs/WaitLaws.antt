@@ -5,7 +5,8 @@ use mathlib.Core.Path.{_≡_, refl, sym, ap, subst, _∙_}
 use mathlib.Core.Bool.{Bool, true, false, not, _||_}
 use mathlib.Core.Option.{none, some}
 use mathlib.Core.List.{List, [], _∷_, _++_, map, append-assoc, map-append, map-map}
-use mathlib.Core.List.{List·Permᴰ as Reordered, List·Permᴰ·nil as order-nil, List·Permᴰ·cons as order-cons, List·Permᴰ·swap as order-swap, List·Permᴰ·trans as order-trans, Permᴰ·symm, Permᴰ·append-right, Permᴰ·middle, Permᴰ·map}
+use mathlib.Core.List.{List·Permᴰ as Reordered, List·Permᴰ·nil as order-nil, List·Permᴰ·cons as order-cons, List·Permᴰ·swap as order-swap, List·Permᴰ·trans as order-trans}
+use mathlib.Core.List.{Permᴰ·symm, Permᴰ·append-right, Permᴰ·middle, Permᴰ·map}
 use Prim.Native.Nat.{ℕ, suc, _+_, _<_}
 use native.Mathlib.Omega.{arith}
 use native.Mathlib.Decide.{decLe}
@@ -35,30 +36,43 @@ module _ {A : Type 0} where
       go true r = order-cons refl r
       go false r = order-trans (Permᴰ·middle x (keep p xs) (keep q xs)) (order-cons refl r)
 
+  every : (xs : List A) → all (λ x. true) xs ≡ true
+  unfolding all
+  every [] = refl
+  every (x ∷ xs) = every xs
+
 -- a row put among others
 module _ {A : Type 0} (key : A → ℕ) (x : A) (xs : List A) where
+  put-parts : (lo hi : ℕ) (ok : A → Bool) → ((y : A) → ok y ≡ true → leb hi (key y) ≡ not (ltb (key y) lo)) → all ok xs ≡ true
+      → Reordered (putRows key lo hi (x ∷ []) xs) (x ∷ xs)
+  unfolding putRows
+  put-parts lo hi ok h a =
+      order-trans (Permᴰ·middle x (keep (λ e. ltb (key e) lo) xs) (keep (λ e. leb hi (key e)) xs))
+      (order-cons refl (two-parts (λ e. ltb (key e) lo) (λ e. leb hi (key e)) ok h xs a))
+
   put-between : (i : ℕ) → Reordered (putRows key i i (x ∷ []) xs) (x ∷ xs)
-  unfolding putRows all
-  put-between i = order-trans (Permᴰ·middle x (keep (λ e. ltb (key e) i) xs) (keep (λ e. leb i (key e)) xs)) (order-cons refl (two-parts (λ e. ltb (key e) i) (λ e. leb i (key e)) (λ e. true) (λ e t. other (key e)) xs (every xs)))
+  put-between i = put-parts i i (λ y. true) (λ y t. other (key y)) (every xs)
     where
       other : (k : ℕ) → leb i k ≡ not (ltb k i)
       other k = elim (decLe i k) [ yes h ↦ rw (le-leb i k h, le-ltb k i h) | no h ↦ rw (lt-leb i k (omega arith), lt-ltb k i (omega arith)) ]
 
-      every : (ys : List A) → all (λ e. true) ys ≡ true
-      every [] = refl
-      every (y ∷ ys) = every ys
-
   -- in the place of none
   put-absent : (i : ℕ) → elem i (map key xs) ≡ false → Reordered (putRows key i (suc i) (x ∷ []) xs) (x ∷ xs)
-  unfolding putRows all any
-  put-absent i a = order-trans (Permᴰ·middle x (keep (λ e. ltb (key e) i) xs) (keep (λ e. leb (suc i) (key e)) xs)) (order-cons refl (two-parts (λ e. ltb (key e) i) (λ e. leb (suc i) (key e)) (λ e. not (eqb (key e) i)) (λ e t. other (key e) (eqb-false (key e) i (not-true (eqb (key e) i) t))) xs (absent xs a)))
+  unfolding all any
+  put-absent i a = put-parts i (suc i) (λ y. not (eqb (key y) i)) (λ y t. other (key y) (eqb-false (key y) i (not-true (eqb (key y) i) t))) (absent xs a)
     where
       other : (k : ℕ) → (k ≡ i → ⊥) → leb (suc i) k ≡ not (ltb k i)
-      other k ne = elim (decLe i k) [ yes h ↦ rw (le-leb (suc i) k (omega (arith, ne)), le-ltb k i h) | no h ↦ rw (lt-leb (suc i) k (omega arith), lt-ltb k i (omega arith)) ]
+      other k ne =
+          elim (decLe i k) [
+            | yes h ↦ rw (le-leb (suc i) k (omega (arith, ne)), le-ltb k i h)
+            | no h ↦ rw (lt-leb (suc i) k (omega arith), lt-ltb k i (omega arith))
+          ]
 
       absent : (ys : List A) → elem i (map key ys) ≡ false → all (λ e. not (eqb (key e) i)) ys ≡ true
       absent [] e = refl
-      absent (y ∷ ys) e = let f = or-false (eqb i (key y)) (elem i (map key ys)) e in and-both _ _ (ap not (eqb-sym (key y) i ∙ f .0)) (absent ys (f .1))
+      absent (y ∷ ys) e =
+          let f = or-false (eqb i (key y)) (elem i (map key ys)) e in
+          and-both _ _ (ap not (eqb-sym (key y) i ∙ f .0)) (absent ys (f .1))
 
 -- ---- the waiting rows
 -- the row of an entry that waits
@@ -86,18 +100,15 @@ waits-remove gone h s w =
     rw (keep-append p (s .waiting) gone, keep-map p waiterFor (s .entries)) at (keep-order p w)
 
 pub waits-drained : (delay round : ℕ) (gone : List Waiting) (s : State) → Waits gone s → Waits (keep (due delay round) (s .waiting) ++ gone) (drained delay round s)
-unfolding drained all
+unfolding drained
 waits-drained delay round gone s w =
-    rw (← append-assoc (keep (λ x. not (due delay round x)) (s .waiting)) (keep (due delay round) (s .waiting)) gone)
-    (order-trans (Permᴰ·append-right gone (two-parts (λ x. not (due delay round x)) (due delay round) (λ x. true) (λ x t. twice (due delay round x)) (s .waiting) (every (s .waiting)))) w)
+    let left : Waiting → Bool = λ x. not (due delay round x) in
+    let parts = two-parts left (due delay round) (λ x. true) (λ x t. twice (due delay round x)) (s .waiting) (every (s .waiting)) in
+    rw (← append-assoc (keep left (s .waiting)) (keep (due delay round) (s .waiting)) gone) (order-trans (Permᴰ·append-right gone parts) w)
   where
     twice : (b : Bool) → b ≡ not (not b)
     twice true = refl
     twice false = refl
-
-    every : (ys : List Waiting) → all (λ e. true) ys ≡ true
-    every [] = refl
-    every (y ∷ ys) = every ys
 
 -- ---- how many there are
 module _ (gone : List Waiting) (s : State) (w : Waits gone s) where
