@@ -4,7 +4,8 @@
 -- `Holding`: a box that started fresh always holds two states. `Agreement`: they are in step with the plain box.
 -- `Outputs`: what the snapshot and the listing of a box are. `Snapshots`, `Listings`: claims 1 and 2.
 -- `Trace`: the journal that a box's calls leave. `Rebuilding`: claim 3.
--- Beside it, `Refusals`: the table of refusals over such a box, by `Answered` and `DeltaRefusals`.
+-- Beside it, `Kept`: what is kept of a box that started fresh, by `TableWords`.
+-- `Refusals`: the table of refusals over such a box, by `Answered` and `DeltaRefusals`.
 pub mod States
 pub mod CountersHeld
 pub mod NurseryHeld
@@ -19,3 +20,5 @@ pub mod Proof
 pub mod DeltaRefusals
 pub mod Answered
 pub mod Refusals
+pub mod TableWords
+pub mod Kept

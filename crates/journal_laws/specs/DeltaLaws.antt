@@ -18,7 +18,7 @@ use Rattle.base.specs.OutcomeLaws.{refused-taken, taken-same}
 use Rattle.base.specs.declared.Refusal.the-variants.{Present, NurseryFull, TooLong}
 use Rattle.base.specs.Bytes.{cut, readLe, readList}
 use Rattle.base.specs.Laws.{and-left, and-right, and-both, length-digits}
-use Rattle.base.specs.ListLaws.{or-false, all-append}
+use Rattle.base.specs.ListLaws.{or-false, all-append, all-weaker}
 use Rattle.base.specs.SumLaws.{all-one}
 use Rattle.base.specs.NumberLaws.{number-below}
 use Rattle.cell_nursery.specs.Entries.{Entry, State, hashBytes, insertBytes}
@@ -89,15 +89,19 @@ hash-bytes bs b =
 fitsHead : Entry → Bool
 fitsHead e = ltb (e .hash) (2 ^ 256) && ltb (e .idx) (2 ^ 64) && ltb (e .born) (2 ^ 32)
 
-insert-bytes : (w : ℕ) (bs : List ℕ) → Bytes bs → Gives (λ y. (fitsHead (y .0) ≡ true) × Bytes (y .1)) (readInsert w bs)
-unfolding readInsert fitsHead
+-- they fit, and the cell is bytes
+readOf : Entry → Bool
+readOf e = fitsHead e && all (λ b. ltb b 256) (e .cell)
+
+insert-bytes : (w : ℕ) (bs : List ℕ) → Bytes bs → Gives (λ y. (readOf (y .0) ≡ true) × Bytes (y .1)) (readInsert w bs)
+unfolding readInsert readOf fitsHead
 insert-bytes w bs b =
     gives-bind (hash-bytes bs b) (λ h p.
     gives-bind (le-bytes 8 (h .1) (p .1)) (λ i q.
     gives-bind (le-bytes 4 (i .1) (q .1)) (λ r s.
     gives-bind (le-bytes w (r .1) (s .1)) (λ n t.
     gives-bind (cut-bytes (n .0) (n .1) (t .1)) (λ c u.
-    gives (rw (p .0, lt-ltb (i .0) (2 ^ 64) (q .0), lt-ltb (r .0) (2 ^ 32) (s .0)) refl, u .2))))))
+    gives (rw (p .0, lt-ltb (i .0) (2 ^ 64) (q .0), lt-ltb (r .0) (2 ^ 32) (s .0)) (u .1), u .2))))))
 
 list-bytes : {A : Type 0} (f : List ℕ → Option (A × List ℕ)) (ok : A → Bool) → ((bs : List ℕ) → Bytes bs → Gives (λ y. (ok (y .0) ≡ true) × Bytes (y .1)) (f bs))
     → (n : ℕ) (bs : List ℕ) → Bytes bs → Gives (λ y. (length (y .0) ≡ n) × (all ok (y .0) ≡ true) × Bytes (y .1)) (readList f n bs)
@@ -108,19 +112,28 @@ list-bytes f ok h (suc n) bs b =
     gives-bind (list-bytes f ok h n (y .1) (p .1)) (λ z q.
     gives (ap suc (q .0), and-both _ _ (p .0) (q .1), q .2)))
 
+heads-of : (es : List Entry) → all readOf es ≡ true → all fitsHead es ≡ true
+unfolding readOf
+heads-of es a = all-weaker fitsHead readOf (λ e f. and-left (fitsHead e) (all (λ b. ltb b 256) (e .cell)) f) es a
+
+cells-of : (es : List Entry) → all readOf es ≡ true → all (λ e. all (λ b. ltb b 256) (e .cell)) es ≡ true
+unfolding readOf
+cells-of es a = all-weaker (λ e. all (λ b. ltb b 256) (e .cell)) readOf (λ e f. and-right (fitsHead e) (all (λ b. ltb b 256) (e .cell)) f) es a
+
 -- a delta that was read
 pub record Read (inserts removes : ℕ) (d : Delta) : Type 0 where
   pub number-inserts : length (d .inserts) ≡ inserts
   pub number-removes : length (d .removes) ≡ removes
   heads : all fitsHead (d .inserts) ≡ true
+  pub cells : all (λ e. all (λ b. ltb b 256) (e .cell)) (d .inserts) ≡ true
   pub hashes : all (λ h. ltb h (2 ^ 256)) (d .removes) ≡ true
 
 pub delta-read : (w inserts removes : ℕ) (items : List ℕ) (d : Delta) → Bytes items → deltaOf w inserts removes items ≡ some d → Read inserts removes d
 unfolding deltaOf
 delta-read w inserts removes items d b e =
-    given {P = Read inserts removes} (gives-bind (list-bytes (readInsert w) fitsHead (insert-bytes w) inserts items b) (λ y p.
+    given {P = Read inserts removes} (gives-bind (list-bytes (readInsert w) readOf (insert-bytes w) inserts items b) (λ y p.
     gives-bind (list-bytes readHash (λ h. ltb h (2 ^ 256)) hash-bytes removes (y .1) (p .2)) (λ z q.
-    gives (record { number-inserts = p .0; number-removes = q .0; heads = p .1; hashes = q .1 })))) e
+    gives (record { number-inserts = p .0; number-removes = q .0; heads = heads-of (y .0) (p .1); cells = cells-of (y .0) (p .1); hashes = q .1 })))) e
 
 -- ---- what is not too long
 -- each cell is of at most 65,535 bytes
