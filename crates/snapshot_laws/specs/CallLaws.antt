@@ -1,30 +1,39 @@
--- The two calls on a record and a table that hold a state: what is written, read into a table with room, leaves that state with fresh maintenance.
+-- The two calls: what is written of a record and a table that hold a state, read into a table with room, leaves that state with fresh maintenance;
+-- when they are refused; and what reading leaves, whatever the bytes.
 -- Assumes nothing.
-use mathlib.Core.Path.{_≡_, refl}
-use mathlib.Core.Bool.{Bool, true}
+use mathlib.Core.Path.{_≡_, refl, sym, ap, _∙_}
+use mathlib.Core.Logic.{_↔_}
+use mathlib.Core.Bool.{Bool, true, false}
 use mathlib.Core.List.{List, [], _∷_}
 use Prim.Native.Nat.{ℕ, zero, suc, _^_, _≤_, _<_}
 use native.Mathlib.Omega.{arith}
+use native.Mathlib.Decide.{decLt}
 use lib.ListN.{length, getD, take, drop}
 use lib.Seq.{take-at}
 use lib.Dec.{ltb}
-use borrow.Author.Tests.{le-ltb}
+use borrow.Author.Tests.{le-ltb, lt-ltb}
 use Rattle.base.specs.Logic.{all, overlay}
 use Rattle.base.specs.Laws.{and-left, and-right}
-use Rattle.base.specs.Answers.{taken}
-use Rattle.base.specs.Output.{fitting, put, written}
-use Rattle.base.specs.declared.Answer.the-variants.{Taken}
+use Rattle.base.specs.Answers.{Outcome, refused, taken, answerNumber, answerOf}
+use Rattle.base.specs.OutcomeLaws.{answer-refused}
+use Rattle.base.specs.declared.Refusal.{Refusal}
+use Rattle.base.specs.declared.Refusal.the-variants.{Broken, OutputFull}
+use Rattle.base.specs.declared.Answer.{Answer}
+use Rattle.base.specs.Output.{Written, fitting, put, written}
+use Rattle.base.specs.declared.Answer.the-variants.{Taken, Refused}
 use Rattle.rows.specs.Table.{rowsOf}
 use Rattle.rows.specs.TableLaws.{length-rowsOf}
 use Rattle.counters.specs.declared.Counters.{Counters}
-use Rattle.counters.specs.Counts.{State}
-use Rattle.counters.specs.Layout.{countRow, roomOf, stateOf, holds}
+use Rattle.counters.specs.Counts.{State, fresh}
+use Rattle.counters.specs.Layout.{countRow, roomOf, recordOf, stateOf, holds}
 use Rattle.counters.specs.LayoutLaws.{held, length-tableOf, stateOf-laid, holds-laid}
 use Rattle.counters.specs.Calls.{laid, laidOut}
-use Rattle.counters.specs.CallLaws.{onState-held}
+use Rattle.counters.specs.CallLaws.{onState-held, onState-broken}
 use Rattle.snapshot.specs.Write.{snapshotBytes}
+use Rattle.snapshot.specs.Read.{readSnapshot}
 use Rattle.snapshot.specs.Calls.{serializeCall, deserializeCall}
 use Rattle.snapshot_laws.specs.RoundTrip.{WellFormed, renewed, read-snapshot}
+use Rattle.snapshot_laws.specs.RefusalLaws.{read-ordered, read-fits}
 
 -- ---- a table of u64 holds u64
 module _ (p : ℕ → Bool) where
@@ -65,6 +74,64 @@ module _ (c : Counters) (t : List ℕ) (h : holds c t ≡ true) where
         let bs : List ℕ = snapshotBytes (stateOf c t) in
         rw serialize-held (take-at bs (drop (length bs) out) (length bs) refl)
 
+-- ---- the refusals of writing
+not-refused : {r : Refusal} → Taken ≡ Refused r → ⊥
+not-refused e = let z : _≡_ {A = ℕ} 0 1 = cc in omega arith
+
+module _ (c : Counters) (t out : List ℕ) where
+  abbrev long : ℕ
+  long = length (snapshotBytes (stateOf c t))
+
+  broken-written : holds c t ≡ false → serializeCall c t out ≡ record { result = record { answer = Refused Broken; len = 0 }; out = out }
+  unfolding serializeCall written fitting put
+  broken-written h = rw (onState-broken c t (λ s. taken (snapshotBytes s)) h)
+
+  full-written : holds c t ≡ true → length out < long → serializeCall c t out ≡ record { result = record { answer = Refused OutputFull; len = 0 }; out = out }
+  unfolding serializeCall written fitting put
+  full-written h l = rw (onState-held c t (λ s. taken (snapshotBytes s)) h, lt-ltb (length out) long l)
+
+  -- 20, broken: exactly where the record and the table hold no state
+  pub serialize-broken : (serializeCall c t out .result .answer ≡ Refused Broken) ↔ (holds c t ≡ false)
+  serialize-broken = (to (holds c t) refl, λ h. ap (λ (w : Written). w .result .answer) (broken-written h))
+    where
+      to : (b : Bool) → holds c t ≡ b → serializeCall c t out .result .answer ≡ Refused Broken → b ≡ false
+      to false h e = refl
+      to true h e =
+          elim (decLt (length out) long) [
+            | yes l ↦ absurd (other (sym (ap (λ (w : Written). w .result .answer) (full-written h l)) ∙ e))
+            | no l ↦ absurd (not-refused (sym (ap (λ (w : Written). w .result .answer) (serialize-held c t h out (omega arith))) ∙ e))
+          ]
+        where
+          other : Refused OutputFull ≡ Refused Broken → ⊥
+          other q = let z : _≡_ {A = ℕ} 15 20 = ap answerNumber q in omega arith
+
+  -- 15, output full: the output is shorter than the snapshot
+  pub serialize-full : (serializeCall c t out .result .answer ≡ Refused OutputFull) ↔ ((holds c t ≡ true) × (length out < long))
+  serialize-full = (to (holds c t) refl, λ p. ap (λ (w : Written). w .result .answer) (full-written (p .0) (p .1)))
+    where
+      to : (b : Bool) → holds c t ≡ b → serializeCall c t out .result .answer ≡ Refused OutputFull → (b ≡ true) × (length out < long)
+      to false h e = absurd (other (sym (ap (λ (w : Written). w .result .answer) (broken-written h)) ∙ e))
+        where
+          other : Refused Broken ≡ Refused OutputFull → ⊥
+          other q = let z : _≡_ {A = ℕ} 20 15 = ap answerNumber q in omega arith
+      to true h e =
+          elim (decLt (length out) long) [
+            | yes l ↦ (refl, l)
+            | no l ↦ absurd (not-refused (sym (ap (λ (w : Written). w .result .answer) (serialize-held c t h out (omega arith))) ∙ e))
+          ]
+
+  -- a refusal leaves the output as it was
+  pub serialize-refused : (r : Refusal) → serializeCall c t out .result .answer ≡ Refused r → (serializeCall c t out .result .len ≡ 0) × (serializeCall c t out .out ≡ out)
+  serialize-refused r e = go (holds c t) refl
+    where
+      go : (b : Bool) → holds c t ≡ b → (serializeCall c t out .result .len ≡ 0) × (serializeCall c t out .out ≡ out)
+      go false h = rw (broken-written h) (refl, refl)
+      go true h =
+          elim (decLt (length out) long) [
+            | yes l ↦ rw (full-written h l) (refl, refl)
+            | no l ↦ absurd (not-refused (sym (ap (λ (w : Written). w .result .answer) (serialize-held c t h out (omega arith))) ∙ e))
+          ]
+
 -- ---- reading what was written
 module _ (base : ℕ) (s : State) (w : WellFormed s) (t : List ℕ) (room : length (s .counts) ≤ roomOf t) where
   pub deserialize-written : deserializeCall base (snapshotBytes s) t ≡ laid (length t) (renewed base s)
@@ -89,3 +156,54 @@ pub deserialize-held : (base : ℕ) (c : Counters) (t t′ : List ℕ) → holds
     → deserializeCall base (snapshotBytes (stateOf c t)) t′ ≡ laid (length t′) (renewed base (stateOf c t))
 unfolding stateOf
 deserialize-held base c t t′ h w r = deserialize-written base (stateOf c t) w t′ (omega (arith, length-rowsOf countRow (c .stored) t))
+
+-- ---- reading any bytes into a table of any content
+module _ (base : ℕ) (bs t : List ℕ) where
+  answered : deserializeCall base bs t .result .answer ≡ answerOf (readSnapshot base (roomOf t) bs)
+  unfolding deserializeCall laidOut laid
+  answered = go (readSnapshot base (roomOf t) bs)
+    where
+      go : (o : Outcome State) → laidOut (recordOf (fresh 0 0)) t o .result .answer ≡ answerOf o
+      go (refused r) = refl
+      go (taken s) = refl
+
+  -- the numbers are the operation's
+  pub deserialize-answer : (r : Refusal) → (deserializeCall base bs t .result .answer ≡ Refused r) ↔ (readSnapshot base (roomOf t) bs ≡ refused r)
+  deserialize-answer r = rw answered (answer-refused (readSnapshot base (roomOf t) bs) r)
+
+  -- a refusal leaves the table as it was, and gives a record of zeros
+  pub deserialize-refused : (r : Refusal) → deserializeCall base bs t .result .answer ≡ Refused r
+      → (deserializeCall base bs t .result .counters ≡ recordOf (fresh 0 0)) × (deserializeCall base bs t .table ≡ t)
+  unfolding deserializeCall laidOut
+  deserialize-refused r e = rw (deserialize-answer r .0 e) (refl, refl)
+
+  -- what is taken is the state that was read, laid out
+  pub deserialize-taken : deserializeCall base bs t .result .answer ≡ Taken
+      → (s : State) × (readSnapshot base (roomOf t) bs ≡ taken s) × (deserializeCall base bs t ≡ laid (length t) s)
+  unfolding deserializeCall laidOut
+  deserialize-taken e = go (readSnapshot base (roomOf t) bs) refl
+    where
+      go : (o : Outcome State) → readSnapshot base (roomOf t) bs ≡ o
+          → (s : State) × (readSnapshot base (roomOf t) bs ≡ taken s) × (laidOut (recordOf (fresh 0 0)) t (readSnapshot base (roomOf t) bs) ≡ laid (length t) s)
+      go (refused r) q = absurd (not-refused (sym e ∙ deserialize-answer r .1 q))
+      go (taken s) q = (s, q, ap (laidOut (recordOf (fresh 0 0)) t) q)
+
+  -- so 20 never follows
+  pub deserialize-taken-holds : deserializeCall base bs t .result .answer ≡ Taken → holds (deserializeCall base bs t .result .counters) (deserializeCall base bs t .table) ≡ true
+  unfolding laid
+  deserialize-taken-holds e =
+      let w = deserialize-taken e in
+      let room = read-fits base (roomOf t) bs (w .0) (w .1) in
+      rw (w .2) (holds-laid (w .0) (length t) (omega arith) (read-ordered base (roomOf t) bs (w .0) (w .1)))
+
+  -- the table keeps its length, whatever the answer
+  pub deserialize-keeps-length : length (deserializeCall base bs t .table) ≡ length t
+  unfolding laid
+  deserialize-keeps-length = go (deserializeCall base bs t .result .answer) refl
+    where
+      go : (a : Answer) → deserializeCall base bs t .result .answer ≡ a → length (deserializeCall base bs t .table) ≡ length t
+      go (Refused r) e = ap length (deserialize-refused r e .1)
+      go Taken e =
+          let w = deserialize-taken e in
+          let room = read-fits base (roomOf t) bs (w .0) (w .1) in
+          rw (w .2) (length-tableOf (w .0) (length t) (omega arith))

@@ -21,7 +21,7 @@ use Rattle.counters.specs.Layout.{sound, ordered}
 use Rattle.counters.specs.CountLaws.{stored-two, same-counts}
 use Rattle.snapshot.specs.Write.{setBytes, largeBytes, snapshotBytes}
 use Rattle.snapshot.specs.Read.{joined, readSnapshot}
-use Rattle.snapshot_laws.specs.SetLaws.{index, setRow, ascends, sounds, all-below, ordered-keep, stored-before, stored-keep, stored-rows, ordered-rows, rows-again}
+use Rattle.snapshot_laws.specs.SetLaws.{index, setRow, ascends, sounds, all-below, all-two, ordered-keep, stored-before, stored-keep, stored-rows, ordered-rows, rows-again}
 use Rattle.snapshot_laws.specs.SmallLaws.{code-small, code-low, code-large, laySets, small, ordered-small, count-small}
 use Rattle.snapshot_laws.specs.ByteLaws.{read-sets, isLarge, length-large, read-large}
 
@@ -85,7 +85,7 @@ module _ (next : ℕ) (es : List Entry) (o : ordered next es ≡ true) where
   count-both : (j : ℕ) → countAt j (fold setRow (large es) (small es)) ≡ countAt j es
   unfolding countAt
   count-both j =
-      rw (stored-rows next 0 j (large es) (small es) (ascends next (large es) ordered-large) (sounds next (large es) ordered-large), stored-large j)
+      rw (stored-rows 0 j (large es) (small es) (ascends next (large es) ordered-large) (all-two next (large es) ordered-large), stored-large j)
       (go (storedAt j es) (leb 257 (storedAt j es)) refl (count-small next es o j))
     where
       go : (n : ℕ) (b : Bool) → leb 257 n ≡ b → max (storedAt j (small es)) 1 ≡ 1 + smallCode n

@@ -106,18 +106,18 @@ module _ (p : ℕ → Bool) (j : ℕ) where
 
 -- ---- rows set one after the other
 -- each row's count stands at its index, elsewhere is what was there
-pub stored-rows : (next lo j : ℕ) (xs es : List Entry) → ascendingFrom lo (map index xs) ≡ true → all (sound next) xs ≡ true
+pub stored-rows : (lo j : ℕ) (xs es : List Entry) → ascendingFrom lo (map index xs) ≡ true → all (λ e. leb 2 (e .count)) xs ≡ true
     → storedAt j (fold setRow xs es) ≡ pick (ltb 0 (storedAt j xs)) (storedAt j xs) (storedAt j es)
 unfolding fold storedAt all
-stored-rows next lo j [] es a s = refl
-stored-rows next lo j (x ∷ xs) es a s =
-    go (eqb (x .idx) j) refl (stored-rows next (suc (x .idx)) j xs (setRow x es) tail (and-right (sound next x) (all (sound next) xs) s))
+stored-rows lo j [] es a s = refl
+stored-rows lo j (x ∷ xs) es a s =
+    go (eqb (x .idx) j) refl (stored-rows (suc (x .idx)) j xs (setRow x es) tail (and-right (leb 2 (x .count)) (all (λ e. leb 2 (e .count)) xs) s))
   where
     tail : ascendingFrom (suc (x .idx)) (map index xs) ≡ true
     tail = ascending-tail lo (x .idx) (map index xs) a
 
     two : 2 ≤ x .count
-    two = leb-true 2 (x .count) (and-right (ltb (x .idx) next) (leb 2 (x .count)) (and-left (sound next x) (all (sound next) xs) s))
+    two = leb-true 2 (x .count) (and-left (leb 2 (x .count)) (all (λ e. leb 2 (e .count)) xs) s)
 
     after : ℕ
     after = storedAt j (fold setRow xs (setRow x es))
@@ -151,7 +151,7 @@ pub rows-again : (next : ℕ) (xs : List Entry) → ordered next xs ≡ true →
 unfolding storedAt
 rows-again next xs o =
     same-stored next (fold setRow xs []) xs (ordered-rows next xs [] (all-below next xs o) (ordered-none next)) o
-    (λ j. stored-rows next 0 j xs [] (ascends next xs o) (sounds next xs o) ∙ go j (ltb 0 (storedAt j xs)) refl)
+    (λ j. stored-rows 0 j xs [] (ascends next xs o) (all-two next xs o) ∙ go j (ltb 0 (storedAt j xs)) refl)
   where
     go : (j : ℕ) (b : Bool) → ltb 0 (storedAt j xs) ≡ b → pick b (storedAt j xs) 0 ≡ storedAt j xs
     go j true q = refl
