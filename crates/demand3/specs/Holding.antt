@@ -1,0 +1,136 @@
+-- A box that started fresh always holds a state: after every call its records and tables are those of two states, its tables are as long as
+-- they were, and every waiting row is an entry's.
+-- Assumes nothing.
+use mathlib.Core.Path.{_≡_, refl}
+use mathlib.Core.Bool.{Bool, true, false, _&&_, true≢false, false≢true}
+use mathlib.Core.List.{List, [], _∷_}
+use Prim.Native.Nat.{ℕ, _^_, _<_}
+use lib.ListN.{length}
+use lib.Dec.{ltb}
+use borrow.Author.Tests.{ltb-true}
+use Rattle.base.specs.Logic.{all, zeros}
+use Rattle.base.specs.Laws.{and-left, and-right}
+use Rattle.base.specs.declared.Answer.{Answer}
+use Rattle.base.specs.declared.Answer.the-variants.{Taken, Refused}
+use Rattle.base.specs.declared.Refusal.{Refusal}
+use Rattle.counters.specs.Counts as counts
+use Rattle.counters.specs.Counts.{fresh}
+use Rattle.counters.specs.Maintenance.{standard}
+use Rattle.counters.specs.CallLaws.{alloc-refused, batch-refused, shrink-refused}
+use Rattle.cell_nursery.specs.Entries as entries
+use Rattle.cell_nursery.specs.Entries.{empty}
+use Rattle.journal_laws.specs.DeltaLaws.{Bytes}
+use Rattle.node_box.specs.Box.{Box, Call, allocate, batch, delta, drain, get, shrink, serialize, lookup, listing, made, accepted, withCounters, withNursery, step, run}
+use Rattle.node_box.specs.Demand.{typed, History, Typed, start, end}
+use Rattle.demand3.specs.States.{countersAfter, nurseryAfter}
+use Rattle.demand3.specs.CountersHeld.{CountersHeld, new-held, alloc-held, batch-held-after, shrink-held-after}
+use Rattle.demand3.specs.NurseryHeld.{NurseryHeld, new-nursery, delta-taken, delta-refused, delta-held, drain-held, drain-refused}
+
+-- how long the four tables are
+pub record Sizes : Type 0 where
+  pub counts : ℕ
+  pub entries : ℕ
+  pub waiting : ℕ
+  pub cells : ℕ
+
+-- the box holds the two states in tables of these lengths
+pub record Holds (z : Sizes) (b : Box) (c : counts.State) (n : entries.State) : Type 0 where
+  pub counters : CountersHeld (z .counts) (b .counters) (b .counts) c
+  pub nursery : NurseryHeld (z .entries) (z .waiting) (z .cells) (b .nursery) (b .entries) (b .waiting) (b .cells) n
+
+-- ---- answers
+pub answer-taken : (a : Answer) → accepted a ≡ true → a ≡ Taken
+unfolding accepted
+answer-taken Taken e = refl
+answer-taken (Refused r) e = absurd (false≢true e)
+
+pub answer-refused : (a : Answer) → accepted a ≡ false → (r : Refusal) × (a ≡ Refused r)
+unfolding accepted
+answer-refused Taken e = absurd (true≢false e)
+answer-refused (Refused r) e = (r, refl)
+
+-- ---- a delta's arguments
+pub record DeltaTyped (id : ℕ) (items : List ℕ) : Type 0 where
+  pub small-id : id < 2 ^ 64
+  pub bytes : Bytes items
+
+pub delta-typed : (id : ℕ) (wide : Bool) (inserts removes : ℕ) (items : List ℕ) → typed (delta id wide inserts removes items) ≡ true → DeltaTyped id items
+unfolding typed
+delta-typed id wide inserts removes items t =
+    let a = ltb id (2 ^ 64) in
+    let b = ltb inserts (2 ^ 64) in
+    let c = ltb removes (2 ^ 64) in
+    let abc = and-left (a && b && c) (all (λ x. ltb x 256) items) t in
+    record { small-id = ltb-true id (2 ^ 64) (and-left a b (and-left (a && b) c abc)); bytes = and-right (a && b && c) (all (λ x. ltb x 256) items) t }
+
+-- ---- a call
+module _ {z : Sizes} {b : Box} {c : counts.State} {n : entries.State} (h : Holds z b c n) where
+  -- an accepted call makes its next states of the two
+  pub holds-taken : (x : Call) → typed x ≡ true → accepted (step b x .0) ≡ true → Holds z (step b x .1) (countersAfter x c) (nurseryAfter x n)
+  unfolding step withCounters withNursery countersAfter nurseryAfter typed
+  holds-taken allocate t e = record { counters = alloc-held (h .counters) (answer-taken _ e); nursery = h .nursery }
+  holds-taken (batch words) t e = record { counters = batch-held-after (h .counters) words t (answer-taken _ e); nursery = h .nursery }
+  holds-taken (delta id wide inserts removes items) t e =
+      record {
+        counters = h .counters;
+        nursery = delta-held (h .nursery) wide inserts removes items id (delta-typed id wide inserts removes items t .bytes) (delta-taken (h .nursery) wide inserts removes items (answer-taken _ e));
+      }
+  holds-taken (drain round out) t e = record { counters = h .counters; nursery = drain-held (h .nursery) round _ (answer-taken _ e) }
+  holds-taken (get idx) t e = h
+  holds-taken (shrink saved) t e = record { counters = shrink-held-after (h .counters) saved; nursery = h .nursery }
+  holds-taken (serialize out) t e = h
+  holds-taken (lookup hash) t e = h
+  holds-taken (listing out) t e = h
+
+  -- a refused one leaves the box as it was
+  pub refused-same : (x : Call) → accepted (step b x .0) ≡ false → step b x .1 ≡ b
+  unfolding step withCounters withNursery
+  refused-same allocate e = let r = answer-refused _ e in rw (alloc-refused (b .counters) (r .0) (r .1) .1)
+  refused-same (batch words) e =
+      let r = answer-refused _ e in
+      let q = batch-refused (b .counters) (b .counts) words (r .0) (r .1) in
+      rw (q .0, q .1)
+  refused-same (delta id wide inserts removes items) e =
+      let r = answer-refused _ e in
+      let q = delta-refused (h .nursery) wide inserts removes items (r .0) (r .1) in
+      rw (q .0, q .1, q .2, q .3)
+  refused-same (drain round out) e =
+      let r = answer-refused _ e in
+      let q = drain-refused (h .nursery) round (zeros out) (r .0) (r .1) in
+      rw (q .0, q .1)
+  refused-same (get idx) e = refl
+  refused-same (shrink saved) e = let r = answer-refused _ e in rw (shrink-refused standard (b .counters) (b .counts) saved (r .0) (r .1))
+  refused-same (serialize out) e = refl
+  refused-same (lookup hash) e = refl
+  refused-same (listing out) e = refl
+
+-- ---- a box as it is made, and after any calls
+abbrev pub sizesOf : History → Sizes
+sizesOf h = record { counts = length (h .counts); entries = length (h .entries); waiting = length (h .waiting); cells = length (h .cells) }
+
+pub holds-start : (h : History) → Typed h → Holds (sizesOf h) (start h) (fresh (standard .base) (h .next)) empty
+unfolding start made
+holds-start h t = record { counters = new-held (standard .base) (h .next) (h .counts) (t .next); nursery = new-nursery (h .entries) (h .waiting) (h .cells) }
+
+-- the box holds two states
+pub record Holding (z : Sizes) (b : Box) : Type 0 where
+  pub counters : counts.State
+  pub nursery : entries.State
+  pub holds : Holds z b counters nursery
+
+pub holding-step : {z : Sizes} {b : Box} (x : Call) → typed x ≡ true → Holding z b → Holding z (step b x .1)
+holding-step {z} {b} x t h = go (accepted (step b x .0)) refl
+  where
+    go : (ok : Bool) → accepted (step b x .0) ≡ ok → Holding z (step b x .1)
+    go true e = record { counters = countersAfter x (h .counters); nursery = nurseryAfter x (h .nursery); holds = holds-taken (h .holds) x t e }
+    go false e = rw (refused-same (h .holds) x e) h
+
+pub holding-run : {z : Sizes} {b : Box} (xs : List Call) → all typed xs ≡ true → Holding z b → Holding z (run b xs)
+unfolding run all
+holding-run [] t h = h
+holding-run (x ∷ xs) t h = holding-run xs (and-right (typed x) (all typed xs) t) (holding-step x (and-left (typed x) (all typed xs) t) h)
+
+-- a box that started fresh always holds a state
+pub holding : (h : History) → Typed h → Holding (sizesOf h) (end h)
+unfolding end
+holding h t = holding-run (h .calls) (t .calls) (record { counters = fresh (standard .base) (h .next); nursery = empty; holds = holds-start h t })

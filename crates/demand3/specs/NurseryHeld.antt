@@ -1,0 +1,196 @@
+-- The calls on a record and tables that are those of a state of the nursery: an accepted call leaves those of the next state, a refused one
+-- leaves them as they were.
+-- Assumes nothing.
+use mathlib.Core.Path.{_≡_, refl, sym, _∙_}
+use mathlib.Core.Bool.{Bool, true}
+use mathlib.Core.Option.{Option, none, some}
+use mathlib.Core.List.{List, []}
+use Prim.Native.Nat.{ℕ, _/_, _^_, _≤_, _<_, min}
+use native.Mathlib.Omega.{arith}
+use lib.ListN.{length}
+use Rattle.base.specs.Logic.{sumOf}
+use Rattle.base.specs.SumLaws.{length-keep}
+use Rattle.base.specs.Answers.{Outcome, refused, taken, _>>=_, orRefuse}
+use Rattle.base.specs.Output.{fitting}
+use Rattle.base.specs.declared.Answer.the-variants.{Taken, Refused}
+use Rattle.base.specs.declared.Refusal.{Refusal}
+use Rattle.base.specs.declared.Refusal.the-variants.{Broken}
+use Rattle.cell_nursery.specs.declared.Nursery.{Nursery}
+use Rattle.cell_nursery.specs.Entries.{Waiting, State, empty, cellBytes}
+use Rattle.cell_nursery.specs.Delta.{Room, used, stateAfter, applyDelta}
+use Rattle.cell_nursery.specs.Items.{Delta, deltaOf}
+use Rattle.cell_nursery.specs.Drain.{promotionDelay, due, drained, drainBytes}
+use Rattle.cell_nursery.specs.Layout.{recordOf, entriesTable, waitingTable, cellsTable, roomOf, stateOf, holds, holdsEntries, holdsCells}
+use Rattle.cell_nursery.specs.LayoutLaws.{WellFormed, length-entriesTable, length-waitingTable, length-cellsTable, stateOf-laid, holds-laid, entries-laid, cells-laid}
+use Rattle.cell_nursery.specs.EntryLaws.{well-empty, well-after, well-drained, InRoom, room-after}
+use Rattle.cell_nursery.specs.Calls.{Changed, DrainedOut, laid, laidOut, onState, newCall, lengthWidth, deltaCall, drainedOut, drainCall}
+use Rattle.journal_laws.specs.WaitLaws.{Waits, waits-empty, waits-after, waits-drained, stillGone}
+use Rattle.journal_laws.specs.DeltaLaws.{Bytes, Accepted, delta-read, delta-fits, taken-accepted}
+use Rattle.format.specs.RecordLaws.{Fits}
+use Rattle.node_box.specs.Box.{delta, drain}
+use Rattle.demand3.specs.States.{nurseryAfter}
+
+-- ---- the record and the tables of a state
+
+-- the record and the tables, of given lengths, are those of a state; the waiting rows and some that are gone are the entries' rows
+pub record NurseryHeld (le lw lc : ℕ) (r : Nursery) (es ws cs : List ℕ) (s : State) : Type 0 where
+  pub same-record : r ≡ recordOf s
+  pub same-entries : es ≡ entriesTable le s
+  pub same-waiting : ws ≡ waitingTable lw s
+  pub same-cells : cs ≡ cellsTable lc s
+  pub well : WellFormed s
+  pub rows-fit : used s ≤ min (le / 8) (lw / 5)
+  pub cells-fit : cellBytes (s .entries) ≤ lc
+  pub gone : List Waiting
+  pub waits : Waits gone s
+
+module _ {le lw lc : ℕ} {r : Nursery} {es ws cs : List ℕ} {s : State} (h : NurseryHeld le lw lc r es ws cs s) where
+  pub nursery-holds : holds r es ws cs ≡ true
+  nursery-holds = rw (h .same-record, h .same-entries, h .same-waiting, h .same-cells) (holds-laid s le lw lc (h .well) (h .rows-fit) (h .cells-fit))
+
+  pub nursery-state : stateOf r es ws cs ≡ s
+  nursery-state = rw (h .same-record, h .same-entries, h .same-waiting, h .same-cells) (stateOf-laid s le lw lc (h .well) (h .rows-fit) (h .cells-fit))
+
+  pub entries-hold : holdsEntries r es ≡ true
+  entries-hold = rw (h .same-record, h .same-entries) (entries-laid s le lw lc (h .well) (h .rows-fit) (h .cells-fit))
+
+  pub cells-hold : holdsCells r cs ≡ true
+  cells-hold = rw (h .same-record, h .same-cells) (cells-laid s le lw lc (h .well) (h .rows-fit) (h .cells-fit))
+
+  pub entries-length : length es ≡ le
+  entries-length = rw (h .same-entries) (length-entriesTable s le lw lc (h .well) (h .rows-fit) (h .cells-fit))
+
+  pub waiting-length : length ws ≡ lw
+  waiting-length = rw (h .same-waiting) (length-waitingTable s le lw lc (h .well) (h .rows-fit) (h .cells-fit))
+
+  pub cells-length : length cs ≡ lc
+  cells-length = rw (h .same-cells) (length-cellsTable s le lw lc (h .well) (h .rows-fit) (h .cells-fit))
+
+-- the same of what a call returns and leaves
+abbrev pub ChangedHeld : ℕ → ℕ → ℕ → Changed → State → Type 0
+ChangedHeld le lw lc x s = NurseryHeld le lw lc (x .result .nursery) (x .entries) (x .waiting) (x .cells) s
+
+-- what tables of given lengths have room for
+abbrev pub roomFor : ℕ → ℕ → ℕ → Room
+roomFor le lw lc = record { entries = min (le / 8) (lw / 5); cells = lc }
+
+-- a state laid out
+pub laid-held : (es ws cs : List ℕ) (s : State) (gone : List Waiting)
+    → WellFormed s → InRoom (roomFor (length es) (length ws) (length cs) .entries) (length cs) s → Waits gone s
+    → ChangedHeld (length es) (length ws) (length cs) (laid es ws cs s) s
+unfolding laid
+laid-held es ws cs s gone w i x =
+    record { same-record = refl; same-entries = refl; same-waiting = refl; same-cells = refl; well = w; rows-fit = i .rows-fit; cells-fit = i .bytes-fit; gone = gone; waits = x }
+
+-- an empty nursery has room in any tables
+pub empty-fits : (rows bytes : ℕ) → InRoom rows bytes empty
+unfolding empty used cellBytes sumOf
+empty-fits rows bytes = record { rows-fit = omega arith; bytes-fit = omega arith }
+
+pub new-nursery : (es ws cs : List ℕ) → ChangedHeld (length es) (length ws) (length cs) (newCall es ws cs) empty
+unfolding newCall
+new-nursery es ws cs = laid-held es ws cs empty [] well-empty (empty-fits _ _) waits-empty
+
+-- ---- a delta
+not-refused : {r : Refusal} → Taken ≡ Refused r → ⊥
+not-refused e = let z : _≡_ {A = ℕ} 0 1 = cc in omega arith
+
+module _ {le lw lc : ℕ} {r : Nursery} {es ws cs : List ℕ} {s : State} (h : NurseryHeld le lw lc r es ws cs s) where
+  pub room-same : roomOf es ws cs ≡ roomFor le lw lc
+  unfolding roomOf
+  room-same = rw (entries-length h, waiting-length h, cells-length h)
+
+  module _ (wide : Bool) (inserts removes : ℕ) (items : List ℕ) where
+    -- what was accepted
+    pub record DeltaTaken : Type 0 where
+      pub change : Delta
+      pub spelled : deltaOf (lengthWidth wide) inserts removes items ≡ some change
+      pub accepted : Accepted (roomFor le lw lc) s change
+      pub result : deltaCall r es ws cs wide inserts removes items ≡ laid es ws cs (stateAfter change s)
+
+    outcome : deltaCall r es ws cs wide inserts removes items
+        ≡ laidOut r es ws cs (orRefuse Broken (deltaOf (lengthWidth wide) inserts removes items) >>= applyDelta (roomFor le lw lc) s)
+    unfolding deltaCall onState
+    outcome = rw (nursery-holds h, nursery-state h, room-same)
+
+    pub delta-taken : deltaCall r es ws cs wide inserts removes items .result .answer ≡ Taken → DeltaTaken
+    unfolding laidOut
+    delta-taken e = go (deltaOf (lengthWidth wide) inserts removes items) refl (rw outcome at e)
+      where
+        after : (d : Delta) (o : Outcome State) → applyDelta (roomFor le lw lc) s d ≡ o → deltaOf (lengthWidth wide) inserts removes items ≡ some d
+            → laidOut r es ws cs o .result .answer ≡ Taken → DeltaTaken
+        after d (refused q) p i a = absurd (not-refused (sym a))
+        after d (taken t) p i a =
+            let (ok, same) = taken-accepted (roomFor le lw lc) s d t p in
+            record { change = d; spelled = i; accepted = ok; result = outcome ∙ rw (i, p, same) }
+
+        go : (o : Option Delta) → deltaOf (lengthWidth wide) inserts removes items ≡ o
+            → laidOut r es ws cs (orRefuse Broken o >>= applyDelta (roomFor le lw lc) s) .result .answer ≡ Taken → DeltaTaken
+        go none i a = absurd (not-refused (sym a))
+        go (some d) i a = after d (applyDelta (roomFor le lw lc) s d) refl i a
+
+    -- a refusal changes nothing
+    pub delta-refused : (q : Refusal) → deltaCall r es ws cs wide inserts removes items .result .answer ≡ Refused q
+        → (deltaCall r es ws cs wide inserts removes items .result .nursery ≡ r) × (deltaCall r es ws cs wide inserts removes items .entries ≡ es)
+        × (deltaCall r es ws cs wide inserts removes items .waiting ≡ ws) × (deltaCall r es ws cs wide inserts removes items .cells ≡ cs)
+    unfolding laidOut laid
+    delta-refused q e = rw outcome (go (orRefuse Broken (deltaOf (lengthWidth wide) inserts removes items) >>= applyDelta (roomFor le lw lc) s) (rw outcome at e))
+      where
+        go : (o : Outcome State) → laidOut r es ws cs o .result .answer ≡ Refused q
+            → (laidOut r es ws cs o .result .nursery ≡ r) × (laidOut r es ws cs o .entries ≡ es) × (laidOut r es ws cs o .waiting ≡ ws) × (laidOut r es ws cs o .cells ≡ cs)
+        go (refused p) a = (refl, refl, refl, refl)
+        go (taken t) a = absurd (not-refused a)
+
+    -- the delta is one that a record can carry
+    pub delta-carried : (id : ℕ) → id < 2 ^ 64 → Bytes items → (t : DeltaTaken) → Fits id (t .change)
+    delta-carried id i b t = delta-fits id inserts removes (t .change) i (delta-read (lengthWidth wide) inserts removes items (t .change) b (t .spelled)) (t .accepted .short)
+
+    pub delta-held : (id : ℕ) → Bytes items → DeltaTaken
+        → ChangedHeld le lw lc (deltaCall r es ws cs wide inserts removes items) (nurseryAfter (delta id wide inserts removes items) s)
+    unfolding nurseryAfter
+    delta-held id b t =
+        let d = t .change in
+        let well = well-after d s (delta-carried 0 (omega arith) b t .inserts) (h .well) in
+        let fit = room-after (roomFor le lw lc) d s (t .accepted .fits) in
+        let waits = waits-after (h .gone) d s (t .accepted .new) (h .waits) in
+        let out = laid-held es ws cs (stateAfter d s) (stillGone (d .removes) (h .gone)) well (rw (entries-length h, waiting-length h, cells-length h) fit) waits in
+        rw (t .spelled, t .result) (rw (entries-length h, waiting-length h, cells-length h) at out)
+
+  -- ---- draining
+  module _ (round : ℕ) (out : List ℕ) where
+    abbrev draining : DrainedOut
+    draining = drainCall promotionDelay r es ws cs round out
+
+    drain-outcome : draining ≡ drainedOut r ws out (fitting (length out) (taken (drainBytes promotionDelay round s))) (drained promotionDelay round s)
+    unfolding drainCall onState
+    drain-outcome = rw (nursery-holds h, nursery-state h)
+
+    pub drain-held : draining .result .answer ≡ Taken
+        → NurseryHeld le lw lc (draining .result .nursery) es (draining .waiting) cs (nurseryAfter (drain round 0) s)
+    unfolding drainedOut nurseryAfter drained entriesTable cellsTable recordOf
+    drain-held e = rw drain-outcome (go (fitting (length out) (taken (drainBytes promotionDelay round s))) (rw drain-outcome at e))
+      where
+        go : (o : Outcome (List ℕ)) → drainedOut r ws out o (drained promotionDelay round s) .result .answer ≡ Taken
+            → NurseryHeld le lw lc (drainedOut r ws out o (drained promotionDelay round s) .result .nursery) es (drainedOut r ws out o (drained promotionDelay round s) .waiting) cs (drained promotionDelay round s)
+        go (refused q) a = absurd (not-refused (sym a))
+        go (taken bs) a =
+            record {
+              same-record = refl;
+              same-entries = h .same-entries;
+              same-waiting = rw (waiting-length h);
+              same-cells = h .same-cells;
+              well = well-drained promotionDelay round s (h .well);
+              rows-fit = unfold used in (omega (arith, h .rows-fit, length-keep (due promotionDelay round) (s .waiting)));
+              cells-fit = h .cells-fit;
+              gone = _;
+              waits = waits-drained promotionDelay round (h .gone) s (h .waits);
+            }
+
+    pub drain-refused : (q : Refusal) → draining .result .answer ≡ Refused q → (draining .result .nursery ≡ r) × (draining .waiting ≡ ws)
+    unfolding drainedOut
+    drain-refused q e = rw drain-outcome (go (fitting (length out) (taken (drainBytes promotionDelay round s))) (rw drain-outcome at e))
+      where
+        go : (o : Outcome (List ℕ)) → drainedOut r ws out o (drained promotionDelay round s) .result .answer ≡ Refused q
+            → (drainedOut r ws out o (drained promotionDelay round s) .result .nursery ≡ r) × (drainedOut r ws out o (drained promotionDelay round s) .waiting ≡ ws)
+        go (refused p) a = (refl, refl)
+        go (taken bs) a = absurd (not-refused a)

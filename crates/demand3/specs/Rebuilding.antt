@@ -1,0 +1,141 @@
+-- Claim 3: the box read in from a box's snapshot and the first bytes of its journal.
+-- Assumes nothing.
+use mathlib.Core.Path.{_≡_, refl, sym, ap, subst, _∙_}
+use mathlib.Core.List.{List, [], map}
+use Prim.Native.Nat.{ℕ, _≤_}
+use native.Mathlib.Omega.{arith}
+use lib.ListN.{length, take, length-map}
+use Rattle.base.specs.Logic.{flat}
+use Rattle.blake3.specs.Spec.{hash}
+use Rattle.blake3.specs.Equations.{length-hash}
+use Rattle.counters.specs.Counts as counts
+use Rattle.counters.specs.Maintenance.{standard}
+use Rattle.counters.specs.Calls as counters-calls
+use Rattle.snapshot.specs.Calls.{deserializeCall}
+use Rattle.snapshot_laws.specs.RoundTrip.{renewed, snapshot-same}
+use Rattle.snapshot_laws.specs.CallLaws.{deserialize-written}
+use Rattle.cell_nursery.specs.Entries as entries
+use Rattle.cell_nursery.specs.Entries.{empty}
+use Rattle.cell_nursery.specs.Delta.{Room}
+use Rattle.cell_nursery.specs.Drain.{listingBytes}
+use Rattle.cell_nursery.specs.Layout.{recordOf, roomOf}
+use Rattle.cell_nursery.specs.Calls.{laid}
+use Rattle.cell_nursery.specs.EntryLaws.{well-empty}
+use Rattle.journal.specs.Journal.{End, readJournal, readCall}
+use Rattle.journal_laws.specs.WaitLaws.{Waits, waits-empty, number-waits}
+use Rattle.journal_laws.specs.ReadLaws.{endOf, Applies, applies-whole, applied-waits, applied-well, applied-fits, journal-cut}
+use Rattle.node_box.specs.Box.{Box, snapshotOf, listingOf}
+use Rattle.node_box.specs.Journal.{Logged, records, journalOf, whole, listingAfter, rebuild, cutEnd}
+use Rattle.node_box.specs.Demand.{History, Typed, start, end, wholeOf, wholeBytes, readBack, Rebuilt}
+use Rattle.demand3.specs.CountersHeld.{CountersHeld, laid-counters}
+use Rattle.demand3.specs.NurseryHeld.{NurseryHeld, ChangedHeld, roomFor, laid-held, empty-fits}
+use Rattle.demand3.specs.Holding.{sizesOf, holds-start, holding}
+use Rattle.demand3.specs.Outputs.{snapshot-is, listing-is}
+use Rattle.demand3.specs.Trace.{Step, logged, Traced, traced, wholeSteps, stepBytes, afterSteps, bytes-logged, whole-logged, listed-whole, listing-last}
+
+module _ (a : History) (ok : Typed a) (k : ℕ) (short : k ≤ length (journalOf hash (start a) (a .calls))) where
+  -- the journal's deltas, and those whose records are whole
+  trace : Traced hash (sizesOf a) empty (records hash (start a) (a .calls))
+  trace = traced hash (a .calls) (ok .calls) (holds-start a ok) (record { same = refl; waits = waits-empty })
+
+  applied-steps : List Step
+  applied-steps = wholeSteps hash k (trace .steps)
+
+  journal-is : journalOf hash (start a) (a .calls) ≡ stepBytes hash (trace .steps)
+  unfolding journalOf
+  journal-is = ap (λ (rs : List Logged). flat (λ r. r .bytes) rs) (trace .same) ∙ bytes-logged hash (trace .steps)
+
+  whole-is : wholeOf a k ≡ map (logged hash) applied-steps
+  unfolding applied-steps
+  whole-is = ap (λ (rs : List Logged). whole k rs) (trace .same) ∙ whole-logged hash k (trace .steps)
+
+  bytes-are : wholeBytes a k ≡ length (stepBytes hash applied-steps)
+  bytes-are = ap (λ (rs : List Logged). length (flat (λ r. r .bytes) rs)) whole-is ∙ ap length (bytes-logged hash applied-steps)
+
+  -- they are accepted in tables of the same lengths
+  abbrev room : Room
+  room = roomFor (length (a .entries)) (length (a .waiting)) (length (a .cells))
+
+  applies : Applies hash (λ s. s .id) (λ s. s .change) room empty applied-steps
+  unfolding applied-steps
+  applies = applies-whole hash (λ s. s .id) (λ s. s .change) room (trace .applies) k
+
+  -- the nursery after them, in which every entry waits
+  state : entries.State
+  state = afterSteps hash applied-steps empty
+
+  all-wait : Waits [] state
+  unfolding state
+  all-wait = applied-waits hash (λ s. s .id) (λ s. s .change) room applies waits-empty
+
+  module _ (t es ws cs : List ℕ) (lt : length t ≡ length (a .counts)) (le : length es ≡ length (a .entries))
+      (lw : length ws ≡ length (a .waiting)) (lc : length cs ≡ length (a .cells)) where
+    -- ---- the nursery, read from the journal
+    room-same : roomOf es ws cs ≡ room
+    unfolding roomOf
+    room-same = rw (le, lw, lc)
+
+    reading : readJournal hash (roomOf es ws cs) (take k (journalOf hash (start a) (a .calls)))
+        ≡ record { state = state; applied = length applied-steps; place = length (stepBytes hash applied-steps); ended = endOf (length (stepBytes hash applied-steps)) k }
+    unfolding state applied-steps
+    reading =
+        rw (room-same, journal-is)
+        (journal-cut hash (λ s. s .id) (λ s. s .change) room length-hash (trace .steps) (trace .applies) k (rw journal-is at short))
+
+    nursery-read : ChangedHeld (length es) (length ws) (length cs) (laid es ws cs state) state
+    unfolding state
+    nursery-read =
+        laid-held es ws cs state [] (applied-well hash (λ s. s .id) (λ s. s .change) room applies well-empty)
+        (rw (le, lw, lc) (applied-fits hash (λ s. s .id) (λ s. s .change) room applies (empty-fits (room .entries) (room .cells)))) all-wait
+
+    -- ---- the counters, read from the snapshot
+    counters : counts.State
+    counters = holding a ok .counters
+
+    was-held : CountersHeld (length (a .counts)) (end a .counters) (end a .counts) counters
+    unfolding counters
+    was-held = holding a ok .holds .counters
+
+    abbrev renewedCounters : counts.State
+    renewedCounters = renewed (standard .base) counters
+
+    counters-read : deserializeCall (standard .base) (snapshotOf (end a)) t ≡ counters-calls.laid (length t) renewedCounters
+    counters-read = rw (snapshot-is (end a) was-held) (deserialize-written (standard .base) counters (was-held .well) t (rw lt (was-held .fits)))
+
+    -- ---- the box of both
+    abbrev box : Box
+    box = readBack a k t es ws cs .box
+
+    counters-held : CountersHeld (length t) (box .counters) (box .counts) renewedCounters
+    unfolding readBack rebuild
+    counters-held =
+        let w = was-held .well in
+        subst (λ (r : counters-calls.Changed). CountersHeld (length t) (r .result .counters) (r .table) renewedCounters) (sym counters-read)
+        (laid-counters (length t) renewedCounters (rw lt (was-held .fits))
+        (record { next-fits = w .next-fits; live-fits = w .live-fits; sorted = w .sorted; counts-fit = w .counts-fit }))
+
+    nursery-held : NurseryHeld (length es) (length ws) (length cs) (box .nursery) (box .entries) (box .waiting) (box .cells) state
+    unfolding readBack rebuild readCall
+    nursery-held = subst (λ (e : End). ChangedHeld (length es) (length ws) (length cs) (laid es ws cs (e .state)) state) (sym reading) nursery-read
+
+    snapshot-read : snapshotOf box ≡ snapshotOf (end a)
+    snapshot-read = snapshot-is box counters-held ∙ snapshot-same renewedCounters counters refl refl refl ∙ sym (snapshot-is (end a) was-held)
+
+    listing-read : listingOf box ≡ listingAfter [] (wholeOf a k)
+    unfolding state applied-steps listingBytes empty flat
+    listing-read =
+        listing-is box nursery-held ∙ sym (listing-last hash (listed-whole hash (trace .listed) k))
+        ∙ ap (λ (rs : List Logged). listingAfter [] rs) (sym whole-is)
+
+    pub rebuilt : Rebuilt a k t es ws cs
+    unfolding readBack rebuild readCall cutEnd recordOf laid counters-calls.laid
+    rebuilt =
+        record {
+          answer = λ l. ap (λ (r : counters-calls.Changed). r .result .answer) counters-read;
+          snapshot = λ l. snapshot-read;
+          listing = listing-read;
+          applied = rw (reading, whole-is) (sym (length-map applied-steps (logged hash)));
+          place = rw reading (sym bytes-are);
+          ended = rw (reading, bytes-are);
+          waiting = rw reading (omega (arith, number-waits [] state all-wait));
+        }

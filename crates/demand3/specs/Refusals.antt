@@ -1,0 +1,230 @@
+-- The table of refusals over a box that holds its states, as one that started fresh always does: each number exactly under document 01's
+-- condition, and no call refused with another. Broken (20) is only for words that spell no batch and items that run past their bytes.
+-- Assumes nothing.
+use mathlib.Core.Path.{_≡_, refl, sym, ap, _∙_}
+use mathlib.Core.Logic.{_↔_}
+use mathlib.Core.Bool.{Bool, true, false, false≢true, or-true}
+use mathlib.Core.Option.{Option, none, some}
+use mathlib.Core.List.{List, [], _∷_}
+use Prim.Native.Nat.{ℕ, _/_, _%_, _≤_, _<_}
+use native.Mathlib.Omega.{arith}
+use lib.ListN.{length}
+use lib.Dec.{eqb}
+use borrow.Author.Tests.{eqb-true, eqb-false, eq-eqb}
+use Rattle.base.specs.Logic.{pick, any, elem, max64}
+use Rattle.base.specs.ListLaws.{ltb-lt}
+use Rattle.base.specs.Answers.{Outcome, refused, taken, _>>=_, orRefuse, answerOf, either, numberOf}
+use Rattle.base.specs.OutcomeLaws.{answer-refused, taken-refused, ends-here, Refuses, refuses-none, refuses-step}
+use Rattle.base.specs.Output.{fitting}
+use Rattle.base.specs.declared.Answer.{Answer}
+use Rattle.base.specs.declared.Answer.the-variants.{Taken, Refused}
+use Rattle.base.specs.declared.Refusal.{Refusal}
+use Rattle.base.specs.declared.Refusal.the-variants.{Spent, Unallocated, Repeated, OffTotal, FalseOld, TableFull, Present, NurseryFull, TooLong, OutputFull, Broken}
+use Rattle.rows.specs.Table.{rowsOf}
+use Rattle.counters.specs.declared.CounterTransition.{CounterTransition}
+use Rattle.counters.specs.Counts as counts
+use Rattle.counters.specs.Batch.{applyBatch}
+use Rattle.counters.specs.Layout.{transitionRow, batchOf}
+use Rattle.counters.specs.RefusalLaws.{ChangesUnallocated, NamesTwice, HasFalseOld, LeavesTotal, ExceedsTable}
+use Rattle.counters.specs.RefusalLaws.{allocate-spent, allocate-numbers, get-unallocated, get-numbers, batch-unallocated, batch-repeated, batch-false-old, batch-off-total, batch-table-full, batch-numbers}
+use Rattle.snapshot.specs.Write.{snapshotBytes}
+use Rattle.cell_nursery.specs.Entries as entries
+use Rattle.cell_nursery.specs.Items.{Delta, deltaOf}
+use Rattle.cell_nursery.specs.Delta.{Room, applyDelta}
+use Rattle.cell_nursery.specs.Drain.{promotionDelay, drainBytes, listingBytes}
+use Rattle.cell_nursery.specs.Calls.{lengthWidth}
+use Rattle.journal_laws.specs.WaitLaws.{used-waits}
+use Rattle.node_box.specs.Box.{Box, Call, allocate, batch, delta, drain, get, shrink, serialize, lookup, listing, step}
+use Rattle.node_box.specs.Demand.{History, Typed, end}
+use Rattle.demand3.specs.NurseryHeld.{roomFor}
+use Rattle.demand3.specs.Holding.{Sizes, Holds, sizesOf, holding}
+use Rattle.demand3.specs.DeltaRefusals.{IsLong, IsPresent, IsFull, delta-long, delta-present, delta-full, delta-numbers}
+use Rattle.demand3.specs.Answered.{answerTo, answer-is}
+
+-- what tables of these lengths have room for
+abbrev pub roomIn : Sizes → Room
+roomIn z = roomFor (z .entries) (z .waiting) (z .cells)
+
+-- the words or items of a call spell no batch, or no delta
+abbrev pub Unspelled : Call → Type 0
+Unspelled allocate = ⊥
+Unspelled (batch words) = ¬ (length words % 3 ≡ 0)
+Unspelled (delta id wide inserts removes items) = deltaOf (lengthWidth wide) inserts removes items ≡ none
+Unspelled (drain round out) = ⊥
+Unspelled (get idx) = ⊥
+Unspelled (shrink saved) = ⊥
+Unspelled (serialize out) = ⊥
+Unspelled (lookup hash) = ⊥
+Unspelled (listing out) = ⊥
+
+-- the numbers that a call can be refused with
+abbrev pub numbersOf : Call → List ℕ
+numbersOf allocate = 1 ∷ []
+numbersOf (batch words) = 20 ∷ 2 ∷ 3 ∷ 5 ∷ 4 ∷ 6 ∷ []
+numbersOf (delta id wide inserts removes items) = 20 ∷ 14 ∷ 12 ∷ 13 ∷ []
+numbersOf (drain round out) = 15 ∷ []
+numbersOf (get idx) = 2 ∷ []
+numbersOf (shrink saved) = []
+numbersOf (serialize out) = 15 ∷ []
+numbersOf (lookup hash) = []
+numbersOf (listing out) = 15 ∷ []
+
+module _ (z : Sizes) (b : Box) (c : counts.State) (n : entries.State) where
+  -- of transitions that words spell, and of a delta that items spell
+  pub record BatchRefusals (words : List ℕ) (ts : List CounterTransition) : Type 0 where
+    pub unallocated : (step b (batch words) .0 ≡ Refused Unallocated) ↔ ChangesUnallocated c ts
+    pub repeated : (step b (batch words) .0 ≡ Refused Repeated) ↔ ((¬ ChangesUnallocated c ts) × NamesTwice ts)
+    pub false-old : (step b (batch words) .0 ≡ Refused FalseOld) ↔ ((¬ ChangesUnallocated c ts) × (¬ NamesTwice ts) × HasFalseOld c ts)
+    pub off-total : (step b (batch words) .0 ≡ Refused OffTotal)
+        ↔ ((¬ ChangesUnallocated c ts) × (¬ NamesTwice ts) × (¬ HasFalseOld c ts) × LeavesTotal c ts)
+    pub table-full : (step b (batch words) .0 ≡ Refused TableFull)
+        ↔ ((¬ ChangesUnallocated c ts) × (¬ NamesTwice ts) × (¬ HasFalseOld c ts) × (¬ LeavesTotal c ts) × ExceedsTable c ts (z .counts / 2))
+
+  pub record DeltaRefusals (x : Call) (d : Delta) : Type 0 where
+    pub too-long : (step b x .0 ≡ Refused TooLong) ↔ IsLong d
+    pub present : (step b x .0 ≡ Refused Present) ↔ ((¬ IsLong d) × IsPresent n d)
+    pub nursery-full : (step b x .0 ≡ Refused NurseryFull) ↔ ((¬ IsLong d) × (¬ IsPresent n d) × IsFull (roomIn z) (length (n .entries)) n d)
+
+  pub record Refusals : Type 0 where
+    pub spent : (step b allocate .0 ≡ Refused Spent) ↔ (c .next ≡ max64)
+    pub unallocated : (i : ℕ) → (step b (get i) .0 ≡ Refused Unallocated) ↔ (c .next ≤ i)
+    pub of-batch : (words : List ℕ) (ts : List CounterTransition) → batchOf words ≡ some ts → BatchRefusals words ts
+    pub of-delta : (id : ℕ) (wide : Bool) (inserts removes : ℕ) (items : List ℕ) (d : Delta) → deltaOf (lengthWidth wide) inserts removes items ≡ some d
+        → DeltaRefusals (delta id wide inserts removes items) d
+    pub drain-full : (round out : ℕ) → (step b (drain round out) .0 ≡ Refused OutputFull) ↔ (out < length (drainBytes promotionDelay round n))
+    pub snapshot-full : (out : ℕ) → (step b (serialize out) .0 ≡ Refused OutputFull) ↔ (out < length (snapshotBytes c))
+    pub listing-full : (out : ℕ) → (step b (listing out) .0 ≡ Refused OutputFull) ↔ (out < length (listingBytes (n .entries)))
+    pub broken : (x : Call) → (step b x .0 ≡ Refused Broken) ↔ Unspelled x
+    pub numbers : (x : Call) (q : Refusal) → step b x .0 ≡ Refused q → elem (numberOf q) (numbersOf x) ≡ true
+
+-- ---- answers and outcomes
+-- an answer that is an outcome's is a refusal exactly where the outcome is
+says : {A P : Type 0} {a : Answer} {r : Refusal} (o : Outcome A) → a ≡ answerOf o → (o ≡ refused r) ↔ P → (a ≡ Refused r) ↔ P
+says {r = r} o e f = (λ q. f .0 (answer-refused o r .0 (sym e ∙ q)), λ p. e ∙ answer-refused o r .1 (f .1 p))
+
+output-full : (out : ℕ) (bs : List ℕ) → (fitting out (taken bs) ≡ refused OutputFull) ↔ (out < length bs)
+unfolding fitting
+output-full out bs = ends-here (ltb-lt out (length bs)) taken-refused
+
+output-numbers : (out : ℕ) (bs : List ℕ) → Refuses (15 ∷ []) (fitting out (taken bs))
+unfolding fitting
+output-numbers out bs = refuses-step OutputFull [] (ltb-lt out (length bs)) (refuses-none [] bs)
+
+-- a refusal with a number of the list
+number-in : {A : Type 0} {a : Answer} {q : Refusal} (ns : List ℕ) (o : Outcome A) → Refuses ns o → a ≡ answerOf o → a ≡ Refused q → elem (numberOf q) ns ≡ true
+number-in {q = q} ns o f e p = f q (answer-refused o q .0 (sym e ∙ p))
+
+-- an operation on what may be spelled
+module _ {A B : Type 0} (o : Option A) (f : A → Outcome B) (ns : List ℕ) (inner : (a : A) → Refuses ns (f a)) where
+  spelled-numbers : Refuses (20 ∷ ns) (orRefuse Broken o >>= f)
+  unfolding any
+  spelled-numbers q = go o
+    where
+      go : (p : Option A) → (orRefuse Broken p >>= f) ≡ refused q → elem (numberOf q) (20 ∷ ns) ≡ true
+      go none e = let same : numberOf q ≡ 20 = sym (ap (either numberOf (λ x. 0)) e) in rw (eq-eqb (numberOf q) 20 same)
+      go (some a) e = rw (inner a q e) (or-true (eqb (numberOf q) 20))
+
+  spelled-broken : elem 20 ns ≡ false → ((orRefuse Broken o >>= f) ≡ refused Broken) ↔ (o ≡ none)
+  spelled-broken other = go o
+    where
+      go : (p : Option A) → ((orRefuse Broken p >>= f) ≡ refused Broken) ↔ (p ≡ none)
+      go none = (λ e. refl, λ e. refl)
+      go (some a) = (λ e. absurd (false≢true (sym other ∙ inner a Broken e)), λ e. let x : _≡_ {A = ℕ} 0 1 = cc in absurd (omega arith))
+
+-- words spell no batch exactly where they are ragged
+ragged : (words : List ℕ) → (batchOf words ≡ none) ↔ (¬ (length words % 3 ≡ 0))
+unfolding batchOf
+ragged words = go (eqb (length words % 3) 0) refl
+  where
+    go : (b : Bool) → eqb (length words % 3) 0 ≡ b → (pick b (some (rowsOf transitionRow (length words / 3) words)) none ≡ none) ↔ (¬ (length words % 3 ≡ 0))
+    go true e = (λ q. let x : _≡_ {A = ℕ} 0 1 = cc in absurd (omega arith), λ u. absurd (u (eqb-true (length words % 3) 0 e)))
+    go false e = (λ q. eqb-false (length words % 3) 0 e, λ u. refl)
+
+-- ---- the table
+module _ {z : Sizes} {b : Box} {c : counts.State} {n : entries.State} (h : Holds z b c n) where
+  batch-refusals : (words : List ℕ) (ts : List CounterTransition) → batchOf words ≡ some ts → BatchRefusals z b c n words ts
+  unfolding answerTo
+  batch-refusals words ts e =
+      let o = applyBatch (z .counts / 2) c ts in
+      let said : step b (batch words) .0 ≡ answerOf o = answer-is h (batch words) ∙ rw e in
+      record {
+        unallocated = says o said (batch-unallocated (z .counts / 2) c ts);
+        repeated = says o said (batch-repeated (z .counts / 2) c ts);
+        false-old = says o said (batch-false-old (z .counts / 2) c ts);
+        off-total = says o said (batch-off-total (z .counts / 2) c ts);
+        table-full = says o said (batch-table-full (z .counts / 2) c ts);
+      }
+
+  delta-refusals : (id : ℕ) (wide : Bool) (inserts removes : ℕ) (items : List ℕ) (d : Delta) → deltaOf (lengthWidth wide) inserts removes items ≡ some d
+      → DeltaRefusals z b c n (delta id wide inserts removes items) d
+  unfolding answerTo
+  delta-refusals id wide inserts removes items d e =
+      let o = applyDelta (roomIn z) n d in
+      let said : step b (delta id wide inserts removes items) .0 ≡ answerOf o = answer-is h (delta id wide inserts removes items) ∙ rw e in
+      record {
+        too-long = says o said (delta-long (roomIn z) n d);
+        present = says o said (delta-present (roomIn z) n d);
+        nursery-full = says o said (rw (used-waits (h .nursery .gone) n (h .nursery .waits)) at (delta-full (roomIn z) n d));
+      }
+
+  -- the numbers of each call
+  call-numbers : (x : Call) (q : Refusal) → step b x .0 ≡ Refused q → elem (numberOf q) (numbersOf x) ≡ true
+  unfolding answerTo
+  call-numbers x q e = go x (sym (answer-is h x) ∙ e)
+    where
+      never : {r : Refusal} → Taken ≡ Refused r → ⊥
+      never p = let y : _≡_ {A = ℕ} 0 1 = cc in omega arith
+
+      go : (y : Call) → answerTo z c n y ≡ Refused q → elem (numberOf q) (numbersOf y) ≡ true
+      go allocate p = number-in (1 ∷ []) (counts.allocate (c .next)) (allocate-numbers (c .next)) refl p
+      go (batch words) p =
+          number-in (20 ∷ 2 ∷ 3 ∷ 5 ∷ 4 ∷ 6 ∷ []) (orRefuse Broken (batchOf words) >>= applyBatch (z .counts / 2) c)
+          (spelled-numbers (batchOf words) (applyBatch (z .counts / 2) c) (2 ∷ 3 ∷ 5 ∷ 4 ∷ 6 ∷ []) (λ ts. batch-numbers (z .counts / 2) c ts)) refl p
+      go (delta id wide inserts removes items) p =
+          let spelled = deltaOf (lengthWidth wide) inserts removes items in
+          number-in (20 ∷ 14 ∷ 12 ∷ 13 ∷ []) (orRefuse Broken spelled >>= applyDelta (roomIn z) n)
+          (spelled-numbers spelled (applyDelta (roomIn z) n) (14 ∷ 12 ∷ 13 ∷ []) (λ d. delta-numbers (roomIn z) n d)) refl p
+      go (drain round out) p = let bs = drainBytes promotionDelay round n in number-in (15 ∷ []) (fitting out (taken bs)) (output-numbers out bs) refl p
+      go (get idx) p = number-in (2 ∷ []) (counts.get c idx) (get-numbers c idx) refl p
+      go (shrink saved) p = absurd (never p)
+      go (serialize out) p = number-in (15 ∷ []) (fitting out (taken (snapshotBytes c))) (output-numbers out (snapshotBytes c)) refl p
+      go (lookup hash) p = absurd (never p)
+      go (listing out) p = let bs = listingBytes (n .entries) in number-in (15 ∷ []) (fitting out (taken bs)) (output-numbers out bs) refl p
+
+  -- 20 only where nothing is spelled
+  call-broken : (x : Call) → (step b x .0 ≡ Refused Broken) ↔ Unspelled x
+  unfolding answerTo any
+  call-broken allocate = (λ e. absurd (false≢true (call-numbers allocate Broken e)), λ u. absurd u)
+  call-broken (batch words) =
+      let o = orRefuse Broken (batchOf words) >>= applyBatch (z .counts / 2) c in
+      let none-spelled = spelled-broken (batchOf words) (applyBatch (z .counts / 2) c) (2 ∷ 3 ∷ 5 ∷ 4 ∷ 6 ∷ []) (λ ts. batch-numbers (z .counts / 2) c ts) refl in
+      says o (answer-is h (batch words)) ((λ e. ragged words .0 (none-spelled .0 e)), λ u. none-spelled .1 (ragged words .1 u))
+  call-broken (delta id wide inserts removes items) =
+      let spelled = deltaOf (lengthWidth wide) inserts removes items in
+      says (orRefuse Broken spelled >>= applyDelta (roomIn z) n) (answer-is h (delta id wide inserts removes items))
+      (spelled-broken spelled (applyDelta (roomIn z) n) (14 ∷ 12 ∷ 13 ∷ []) (λ d. delta-numbers (roomIn z) n d) refl)
+  call-broken (drain round out) = (λ e. absurd (false≢true (call-numbers (drain round out) Broken e)), λ u. absurd u)
+  call-broken (get idx) = (λ e. absurd (false≢true (call-numbers (get idx) Broken e)), λ u. absurd u)
+  call-broken (shrink saved) = (λ e. absurd (false≢true (call-numbers (shrink saved) Broken e)), λ u. absurd u)
+  call-broken (serialize out) = (λ e. absurd (false≢true (call-numbers (serialize out) Broken e)), λ u. absurd u)
+  call-broken (lookup hash) = (λ e. absurd (false≢true (call-numbers (lookup hash) Broken e)), λ u. absurd u)
+  call-broken (listing out) = (λ e. absurd (false≢true (call-numbers (listing out) Broken e)), λ u. absurd u)
+
+  pub refusals : Refusals z b c n
+  unfolding answerTo
+  refusals =
+      record {
+        spent = says (counts.allocate (c .next)) (answer-is h allocate) (allocate-spent (c .next));
+        unallocated = λ i. says (counts.get c i) (answer-is h (get i)) (get-unallocated c i);
+        of-batch = batch-refusals;
+        of-delta = delta-refusals;
+        drain-full = λ round out. let bs = drainBytes promotionDelay round n in says (fitting out (taken bs)) (answer-is h (drain round out)) (output-full out bs);
+        snapshot-full = λ out. says (fitting out (taken (snapshotBytes c))) (answer-is h (serialize out)) (output-full out (snapshotBytes c));
+        listing-full = λ out. let bs = listingBytes (n .entries) in says (fitting out (taken bs)) (answer-is h (listing out)) (output-full out bs);
+        broken = call-broken;
+        numbers = call-numbers;
+      }
+
+-- so it is after any calls on a box that started fresh
+pub refusals-after : (a : History) (t : Typed a) → Refusals (sizesOf a) (end a) (holding a t .counters) (holding a t .nursery)
+refusals-after a t = refusals (holding a t .holds)
