@@ -8,7 +8,7 @@ use Rattle.demand3.specs.Rebuilding.{rebuilt}
 pub demand3 : Demand3
 demand3 =
     record {
-      snapshots = λ a b ta tb la lb. snapshots a b ta tb;
+      snapshots = snapshots;
       listings = listings;
       rebuilt = rebuilt;
     }

@@ -131,8 +131,8 @@ module _ (a : History) (ok : Typed a) (k : ℕ) (short : k ≤ length (journalOf
     unfolding readBack rebuild readCall cutEnd recordOf laid counters-calls.laid
     rebuilt =
         record {
-          answer = λ l. ap (λ (r : counters-calls.Changed). r .result .answer) counters-read;
-          snapshot = λ l. snapshot-read;
+          answer = ap (λ (r : counters-calls.Changed). r .result .answer) counters-read;
+          snapshot = snapshot-read;
           listing = listing-read;
           applied = rw (reading, whole-is) (sym (length-map applied-steps (logged hash)));
           place = rw reading (sym bytes-are);
