@@ -10,6 +10,8 @@ WORD = r"[^\s(){}\[\],;.]+"
 
 
 def used(name, body):
+    if name in ("_>>=_", "_>>_") and re.search(r"(?m)\bdo$", body):
+        return True  # a `do` block is read by these
     parts = [p for p in name.split("_") if p]
     return all(re.search(r"(?<![^\s(){}\[\],;.])%s(?![^\s(){}\[\],;.])" % re.escape(p), body) for p in parts)
 
