@@ -36,7 +36,7 @@ add-len c =
     let l = c .before .before .before .loop in
     let s = c .before .before .before .before in
     let a = s .args in
-    omega (arith, large-length (a .n) (a .t .now) (l .i) (omega arith) (c .if1 .taken), s .pre .1)
+    omega (arith, large-length (a .n) (a .t .now) (l .i) (omega arith) (omega (arith, c .if1 .taken)), s .pre .1)
 
 add-i : tie.Need-add-i Inv-loop μ-loop
 add-i c = search needs
@@ -48,8 +48,8 @@ loop-again : tie.Need-loop-again Inv-loop μ-loop
 loop-again c =
     let l = c .before .before .before .loop in
     let a = c .before .before .before .before .args in
-    ⊎-elim (λ w. (omega arith, omega (arith, large-length (a .n) (a .t .now) (l .i) (omega arith) (w .0 .taken))))
-    (λ w. (omega arith, omega (arith, ap length (large-skip (a .n) (a .t .now) (l .i) (omega arith) (w .0 .left))))) (c .if1 .came)
+    ⊎-elim (λ w. (omega arith, omega (arith, large-length (a .n) (a .t .now) (l .i) (omega arith) (omega (arith, w .0 .taken)))))
+    (λ w. (omega arith, omega (arith, ap length (large-skip (a .n) (a .t .now) (l .i) (omega arith) (omega (arith, w .0 .left)))))) (c .if1 .came)
 
 returns : tie.Need-returns Inv-loop μ-loop
 returns c =

@@ -1,5 +1,6 @@
 -- `snapshot_write::serialize_held`. The length decides, before anything is written.
 -- Assumes nothing.
+use native.Mathlib.Omega.{arith}
 use borrow.Author.Needs.{needs}
 use Rattle.snapshot_write.specs.CallLaws.{serialize-full, serialize-taken}
 use Rattle.snapshot_write.proofs.serialize_held.Statement.{statement}
@@ -12,10 +13,10 @@ returns : tie.Need-returns
 returns c =
     let s = c .before .before .before .before in
     let l = c .before .serialized-len-held in
-    serialize-full (s .args .c) (s .args .t .now) (s .args .out .now) (s .pre) (l .result) (l .ensures) (c .if1 .taken)
+    serialize-full (s .args .c) (s .args .t .now) (s .args .out .now) (s .pre) (l .result) (l .ensures) (omega (arith, c .if1 .taken))
 
 write-snapshot-requires : tie.Need-write-snapshot-requires
-write-snapshot-requires c κs = search needs
+write-snapshot-requires c κs = (c .before .before .before .before .before .pre, omega (arith, c .before .before .serialized-len-held .ensures, c .before .if1 .left))
 
 same-length : tie.Need-same-length
 same-length c = search needs
@@ -24,7 +25,7 @@ returns-2 : tie.Need-returns-2
 returns-2 c =
     let s = c .before .before .before .before .before .before .before .before in
     let l = c .before .before .before .before .before .serialized-len-held in
-    serialize-taken (s .args .c) (s .args .t .now) (s .args .out .now) (s .pre) (l .result) (l .ensures) (c .before .before .before .before .if1 .left) (c .before .before .write-snapshot .last .0) (c .before .before .write-snapshot .ensures)
+    serialize-taken (s .args .c) (s .args .t .now) (s .args .out .now) (s .pre) (l .result) (l .ensures) (omega (arith, c .before .before .before .before .if1 .left)) (c .before .before .write-snapshot .last .0) (c .before .before .write-snapshot .ensures)
 
 pub serialize-held-spec : {M : Type 1} → statement M
 serialize-held-spec =

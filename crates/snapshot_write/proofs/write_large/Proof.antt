@@ -49,14 +49,14 @@ write-entry-requires c κs =
     let l = c .before .before .before .before .before .loop in
     let s = c .before .before .before .before .before .before .before .before in
     let a = s .args in
-    omega (arith, large-length (a .n) (a .t .now) (l .i) (omega arith) (c .before .before .if1 .taken), l .inv .1, l .inv .3, s .pre .1)
+    omega (arith, large-length (a .n) (a .t .now) (l .i) (omega arith) (omega (arith, c .before .before .if1 .taken)), l .inv .1, l .inv .3, s .pre .1)
 
 add-p : tie.Need-add-p Inv-loop μ-loop
 add-p c =
     let l = c .before .before .before .before .before .before .before .before .loop in
     let s = c .before .before .before .before .before .before .before .before .before .before .before in
     let a = s .args in
-    omega (arith, large-length (a .n) (a .t .now) (l .i) (omega arith) (c .before .before .before .before .before .if1 .taken), l .inv .1, l .inv .3, s .pre .1)
+    omega (arith, large-length (a .n) (a .t .now) (l .i) (omega arith) (omega (arith, c .before .before .before .before .before .if1 .taken)), l .inv .1, l .inv .3, s .pre .1)
 
 add-i : tie.Need-add-i Inv-loop μ-loop
 add-i c = search needs
@@ -76,14 +76,14 @@ loop-again c =
     let wide : length (le64 x ++ le64 y) ≡ 16 = length-append (le64 x) (le64 y) ∙ omega (arith, length-digits 256 8 x, length-digits 256 8 y) in
     ⊎-elim
     (λ w.
-    let h = w .0 .taken in
+    let h : 257 ≤ y = omega (arith, w .0 .taken) in
     let n = large-length (a .n) (a .t .now) (l .i) (omega arith) h in
     let e : c .if1 .out ≡ putAt (l .out) (l .p) (le64 x ++ le64 y) = w .6 ∙ w .3 .ensures in
     let r : putAt (l .out) (l .p) ((le64 x ++ le64 y) ++ largeFrom (a .n) (a .t .now) (l .i + 1)) ≡ w₀ =
     ap (λ (z : List ℕ). putAt (l .out) (l .p) z) (sym (large-next (a .n) (a .t .now) (l .i) (omega arith) h)) ∙ l .inv .2 in
     (omega arith, omega (arith, w .7, l .inv .1), put-next (l .out) (c .if1 .out) w₀ (l .p) (c .if1 .p) (le64 x ++ le64 y) (largeFrom (a .n) (a .t .now) (l .i + 1)) r e (omega (arith, w .7)) fits, ap length e ∙ length-putAt (l .out) (l .p) (le64 x ++ le64 y) (omega (arith, l .inv .1, l .inv .3, s .pre .1)) ∙ l .inv .3))
     (λ w.
-    let k = large-skip (a .n) (a .t .now) (l .i) (omega arith) (w .0 .left) in
+    let k = large-skip (a .n) (a .t .now) (l .i) (omega arith) (omega (arith, w .0 .left)) in
     let r : putAt (l .out) (l .p) (largeFrom (a .n) (a .t .now) (l .i + 1)) ≡ w₀ = ap (λ (z : List ℕ). putAt (l .out) (l .p) z) (sym k) ∙ l .inv .2 in
     (omega arith, omega (arith, w .2, ap length k, l .inv .1), ap₂ (λ (o : List ℕ) (p : ℕ). putAt o p (largeFrom (a .n) (a .t .now) (l .i + 1))) (w .1) (w .2) ∙ r, ap length (w .1) ∙ l .inv .3))
     (c .if1 .came)
