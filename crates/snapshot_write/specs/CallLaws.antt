@@ -13,19 +13,12 @@ use Rattle.slices.specs.Laws.{paste-start}
 use Rattle.roaring.specs.PlaceLaws.{putAt}
 use Rattle.counters.specs.declared.Counters.{Counters}
 use Rattle.counters.specs.Layout.{stateOf, holds}
-use Rattle.counters.specs.RowLaws.{in-order}
 use Rattle.counters.specs.Calls.{onState}
 use Rattle.snapshot.specs.Write.{snapshotBytes}
 use Rattle.snapshot.specs.Calls.{serializeCall}
-use Rattle.snapshot_write.specs.Length.{lengthCall}
-use Rattle.snapshot_write.specs.Held.{Rows, outcome}
-use native.Mathlib.Omega.{arith}
+use Rattle.snapshot_write.specs.Calls.{lengthCall, outcome}
 
 module _ (c : Counters) (t : List ℕ) where
-  -- the rows of a state
-  pub held-rows : holds c t ≡ true → Rows (c .stored) t
-  held-rows h = let o = in-order c t h in record { words = omega (arith, o .laid .fits); ascends = o .ascends }
-
   -- ---- the length
   pub length-broken : holds c t ≡ false → record { answer = Refused Broken; len = 0 } ≡ lengthCall c t
   unfolding lengthCall onState

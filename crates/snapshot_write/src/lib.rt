@@ -20,10 +20,10 @@ ghost use Rattle.rows.specs.Table.{rowsOf};
 ghost use Rattle.roaring.specs.PlaceLaws.{putAt};
 ghost use Rattle.counters.specs.Layout.{countRow, stateOf};
 ghost use Rattle.counters.specs.Layout as layout;
+ghost use Rattle.counters.specs.Held.{InOrder};
 ghost use Rattle.snapshot.specs.Write.{setBytes, snapshotBytes};
 ghost use Rattle.snapshot.specs.Calls.{serializeCall};
-ghost use Rattle.snapshot_write.specs.Length.{lengthCall};
-ghost use Rattle.snapshot_write.specs.Held.{Rows, outcome};
+ghost use Rattle.snapshot_write.specs.Calls.{lengthCall, outcome};
 ghost use Rattle.snapshot_write.specs.PartLaws.{setsFrom, largeFrom};
 
 // The first byte of a snapshot.
@@ -34,7 +34,7 @@ const FIRST_LARGE: u64 = 257;
 
 // How many bytes the eight sets of n rows take, their lengths included.
 fn sets_len(t: &[u64], n: usize) -> usize
-    requires { ⌜ (Rows n (now t)) × (length (setsFrom n (now t) 0) < 2 ^ 64) ⌝ }
+    requires { ⌜ (InOrder n (now t)) × (length (setsFrom n (now t) 0) < 2 ^ 64) ⌝ }
     ensures { λ r. ⌜ r ≡ length (setsFrom n (now (t .entry)) 0) ⌝ }
 {
     let mut len = 0;
@@ -48,7 +48,7 @@ fn sets_len(t: &[u64], n: usize) -> usize
 
 // How many bytes the large tier of n rows takes.
 fn large_len(t: &[u64], n: usize) -> usize
-    requires { ⌜ (Rows n (now t)) × (length (largeFrom n (now t) 0) < 2 ^ 64) ⌝ }
+    requires { ⌜ (InOrder n (now t)) × (length (largeFrom n (now t) 0) < 2 ^ 64) ⌝ }
     ensures { λ r. ⌜ r ≡ length (largeFrom n (now (t .entry)) 0) ⌝ }
 {
     let mut len = 0;
@@ -89,7 +89,7 @@ pub fn serialized_len(c: Counters, t: &[u64]) -> Wrote
 
 // Set k of n rows goes into `out` from index `at` on, its bitmap behind its bitmap's length: the place behind it.
 fn write_set(out: &mut [u8], at: usize, t: &[u64], n: usize, k: u32) -> usize
-    requires { ⌜ (Rows n (now t)) × (at + length (setBytes (rowsOf countRow n (now t)) k) ≤ length (now out)) ⌝ }
+    requires { ⌜ (InOrder n (now t)) × (at + length (setBytes (rowsOf countRow n (now t)) k) ≤ length (now out)) ⌝ }
     ensures { λ r. ⌜ (now (out .exit) ≡ putAt (now (out .entry)) at (setBytes (rowsOf countRow n (now (t .entry))) k))
         × (r ≡ at + length (setBytes (rowsOf countRow n (now (t .entry))) k)) ⌝ }
 {
@@ -100,7 +100,7 @@ fn write_set(out: &mut [u8], at: usize, t: &[u64], n: usize, k: u32) -> usize
 
 // The eight sets of n rows go into `out` from index `at` on: the place behind them.
 fn write_sets(out: &mut [u8], at: usize, t: &[u64], n: usize) -> usize
-    requires { ⌜ (Rows n (now t)) × (at + length (setsFrom n (now t) 0) ≤ length (now out)) ⌝ }
+    requires { ⌜ (InOrder n (now t)) × (at + length (setsFrom n (now t) 0) ≤ length (now out)) ⌝ }
     ensures { λ r. ⌜ (now (out .exit) ≡ putAt (now (out .entry)) at (setsFrom n (now (t .entry)) 0))
         × (r ≡ at + length (setsFrom n (now (t .entry)) 0)) ⌝ }
 {
@@ -124,7 +124,7 @@ fn write_entry(out: &mut [u8], at: usize, idx: u64, count: u64)
 
 // The large tier of n rows goes into `out` from index `at` on.
 fn write_large(out: &mut [u8], at: usize, t: &[u64], n: usize)
-    requires { ⌜ (Rows n (now t)) × (at + length (largeFrom n (now t) 0) ≤ length (now out)) ⌝ }
+    requires { ⌜ (InOrder n (now t)) × (at + length (largeFrom n (now t) 0) ≤ length (now out)) ⌝ }
     ensures { λ _. ⌜ now (out .exit) ≡ putAt (now (out .entry)) at (largeFrom n (now (t .entry)) 0) ⌝ }
 {
     let mut p = at;

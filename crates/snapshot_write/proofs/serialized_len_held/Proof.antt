@@ -7,7 +7,7 @@ use Rattle.counters.specs.Layout.{stateOf}
 use Rattle.snapshot.specs.Write.{snapshotBytes}
 use Rattle.snapshot_write.specs.PartLaws.{length-snapshot}
 use Rattle.snapshot_write.specs.BoundLaws.{snapshot-fits}
-use Rattle.snapshot_write.specs.CallLaws.{held-rows}
+use Rattle.counters.specs.RowLaws.{in-order}
 use Rattle.snapshot_write.proofs.serialized_len_held.Statement.{statement}
 use Rattle.snapshot_write.proofs.serialized_len_held.Tie as tie
 
@@ -18,7 +18,7 @@ sets-len-requires : tie.Need-sets-len-requires
 sets-len-requires c κs =
     let s = c .before in
     let a = s .args in
-    (held-rows (a .c) (a .t .now) (s .pre), omega (arith, fits s, length-snapshot (a .c) (a .t .now)))
+    (in-order (a .c) (a .t .now) (s .pre), omega (arith, fits s, length-snapshot (a .c) (a .t .now)))
 
 add-result : tie.Need-add-result
 add-result c = let s = c .before .before in omega (arith, c .sets-len .ensures, fits s, length-snapshot (s .args .c) (s .args .t .now))
@@ -27,7 +27,7 @@ large-len-requires : tie.Need-large-len-requires
 large-len-requires c κs =
     let s = c .before .before in
     let a = s .args in
-    (held-rows (a .c) (a .t .now) (s .pre), omega (arith, fits s, length-snapshot (a .c) (a .t .now)))
+    (in-order (a .c) (a .t .now) (s .pre), omega (arith, fits s, length-snapshot (a .c) (a .t .now)))
 
 add-result-2 : tie.Need-add-result-2
 add-result-2 c = let s = c .before .before .before in omega (arith, c .before .sets-len .ensures, c .large-len .ensures, fits s, length-snapshot (s .args .c) (s .args .t .now))

@@ -18,7 +18,7 @@ loop-holds : tie.Need-loop-holds Inv-loop μ-loop
 loop-holds c = (omega arith, omega arith)
 
 length64-requires : tie.Need-length64-requires Inv-loop μ-loop
-length64-requires c κs = let s = c .before .before .before in (s .pre .0 .words, s .pre .0 .ascends)
+length64-requires c κs = let s = c .before .before .before in (omega (arith, s .pre .0 .laid .fits), s .pre .0 .ascends)
 
 add-len : tie.Need-add-len Inv-loop μ-loop
 add-len c =

@@ -17,7 +17,7 @@ write64-requires : tie.Need-write64-requires
 write64-requires c κs =
     let s = c .before .before .before in
     let a = s .args in
-    (s .pre .0 .words, s .pre .0 .ascends, omega (arith, length-set (a .n) (a .t .now) (a .k), s .pre .1))
+    (omega (arith, s .pre .0 .laid .fits), s .pre .0 .ascends, omega (arith, length-set (a .n) (a .t .now) (a .k), s .pre .1))
 
 sub-write-le64 : tie.Need-sub-write-le64
 sub-write-le64 c = omega (arith, c .before .before .before .write64 .ensures .1)

@@ -3,7 +3,7 @@
 use native.Mathlib.Omega.{arith}
 use lib.ListN.{length-set}
 use Rattle.snapshot_write.specs.PartLaws.{length-snapshot, whole-put}
-use Rattle.snapshot_write.specs.CallLaws.{held-rows}
+use Rattle.counters.specs.RowLaws.{in-order}
 use Rattle.snapshot_write.proofs.write_snapshot.Statement.{statement}
 use Rattle.snapshot_write.proofs.write_snapshot.Tie as tie
 
@@ -25,12 +25,12 @@ write-le64-requires-2 c κs =
 write-sets-requires : tie.Need-write-sets-requires
 write-sets-requires c κs =
     let s = c .before .before .before .before .before .before .before .before .before .before .before in
-    (held-rows (s .args .c) (s .args .t .now) (s .pre .0), omega (arith, length-set (s .args .out .now) 0 1, length-snapshot (s .args .c) (s .args .t .now), s .pre .1))
+    (in-order (s .args .c) (s .args .t .now) (s .pre .0), omega (arith, length-set (s .args .out .now) 0 1, length-snapshot (s .args .c) (s .args .t .now), s .pre .1))
 
 write-large-requires : tie.Need-write-large-requires
 write-large-requires c κs =
     let s = c .before .before .before .before .before .before .before .before .before .before .before .before .before .before .before in
-    (held-rows (s .args .c) (s .args .t .now) (s .pre .0), omega (arith, c .before .before .before .write-sets .ensures .1, length-set (s .args .out .now) 0 1, length-snapshot (s .args .c) (s .args .t .now), s .pre .1))
+    (in-order (s .args .c) (s .args .t .now) (s .pre .0), omega (arith, c .before .before .before .write-sets .ensures .1, length-set (s .args .out .now) 0 1, length-snapshot (s .args .c) (s .args .t .now), s .pre .1))
 
 same-length : tie.Need-same-length
 same-length c =
