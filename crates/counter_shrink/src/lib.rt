@@ -90,14 +90,17 @@ fn threshold_after(threshold: u64, saved: u64) -> u64
 }
 
 // After an alive shrink that saved some bytes: only the threshold moves.
-pub fn adjust_shrink_threshold(mut m: CounterMaintenance, bytes_saved: u64) -> CounterMaintenance
-    ensures { λ r. ⌜ r ≡ adjusted standard «bytes_saved» m ⌝ }
+pub fn adjust_shrink_threshold(
+    mut after: CounterMaintenance,
+    bytes_saved: u64,
+) -> CounterMaintenance
+    ensures { λ r. ⌜ r ≡ adjusted standard «bytes_saved» after ⌝ }
 {
-    m.min_alive_removed_before_shrink = threshold_after(
-        m.min_alive_removed_before_shrink,
+    after.min_alive_removed_before_shrink = threshold_after(
+        after.min_alive_removed_before_shrink,
         bytes_saved,
     );
-    m
+    after
 }
 
 // How many of the first n counts are in set k: a pass over the table.
