@@ -8,20 +8,19 @@ use Prim.Native.Nat.{ℕ, zero, suc, _+_, _-_, _*_, _≤_, _<_}
 use native.Mathlib.Nat.{mul-suc, suc-mul, add-assoc}
 use native.Mathlib.Decide.{decLt}
 use native.Mathlib.Omega.{arith}
-use lib.ListN.{length, take, drop, length-drop}
+use lib.ListN.{length, drop, length-drop}
 use lib.Seq.{drop-drop}
 use lib.Dec.{leb, ltb}
 use borrow.Author.Tests.{leb-true, leb-false, le-leb, lt-leb}
 use Rattle.base.specs.Logic.{pick, any, sumOf, max32}
-use Rattle.base.specs.Laws.{and-left, and-right, and-both}
-use Rattle.base.specs.Bytes.{unle, unbe, cut, readLe, readList}
+use Rattle.base.specs.Laws.{and-left, and-right}
+use Rattle.base.specs.Bytes.{readList}
 use Rattle.slices.specs.Laws.{length-part}
 use Rattle.slices.specs.NumberLaws.{cut-at, cut-short, readLe-at, readLe-short}
-use Rattle.cell_nursery.specs.Entries.{Entry, cellBytes}
-use Rattle.cell_nursery.specs.Items.{Delta, readHash, readInsert, deltaOf}
+use Rattle.cell_nursery.specs.Entries.{cellBytes}
+use Rattle.cell_nursery.specs.Items.{readHash, readInsert, deltaOf}
 use Rattle.cell_nursery.specs.Delta.{tooLong}
 use Rattle.delta_items.specs.Walk.{hashIn, cellLen, cellIn, insertIn, insertLen, insertsIn, insertsLen, insertsFit, insertsEnd, longCell, hashesIn, itemsFit, deltaIn, removesAt, insertsFrom, endFrom, removesFrom}
-use Rattle.delta_items.specs.declared.End.{End}
 use Rattle.delta_items.specs.declared.End.the-variants.{At, Past}
 
 -- ---- an item that stands whole, and one that doesn't

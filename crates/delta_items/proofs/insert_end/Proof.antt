@@ -1,8 +1,5 @@
 -- `delta_items::insert_end`. By what its head and its cell have.
 -- Assumes nothing.
-use mathlib.Core.Path.{_≡_, refl, sym, ap, _∙_}
-use Prim.Native.Nat.{ℕ, _+_, _-_, _*_, _≤_, _<_}
-use native.Mathlib.Omega.{arith}
 use borrow.Author.Needs.{needs}
 use Rattle.delta_items.proofs.insert_end.Statement.{statement}
 use Rattle.delta_items.proofs.insert_end.Tie as tie

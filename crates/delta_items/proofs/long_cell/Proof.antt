@@ -1,11 +1,10 @@
 -- `delta_items::long_cell`. The invariant: a cell of all inserts is over the limit exactly where one of those from insert i on is.
 -- Assumes nothing.
-use mathlib.Core.Path.{_≡_, refl, sym, ap, _∙_}
-use Prim.Native.Nat.{ℕ, _+_, _-_, _*_, _≤_, _<_}
+use mathlib.Core.Path.{_≡_, sym, ap, _∙_}
+use Prim.Native.Nat.{ℕ, _-_}
 use native.Mathlib.Omega.{arith}
-use borrow.Author.Needs.{needs}
 use borrow.Author.Tests.{lt-ltb, le-ltb}
-use lib.ListN.{length, drop}
+use lib.ListN.{drop}
 use Rattle.base.specs.Logic.{any}
 use Rattle.cell_nursery.specs.Calls.{lengthWidth}
 use Rattle.delta_items.specs.Walk.{cellLen, insertsIn, insertsLen, insertsFrom, longCell}
