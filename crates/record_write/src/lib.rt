@@ -89,7 +89,7 @@ fn write_head(out: &mut [u8], payload: u64, id: u64, inserts: u64, removes: u64)
 
 // The hash of what stands behind its place, up to `len`, goes in front.
 fn write_hash(out: &mut [u8], len: usize)
-    requires { ⌜ (32 ≤ len) × (len ≤ length (now out)) ⌝ }
+    requires { ⌜ (40 ≤ len) × (len ≤ length (now out)) ⌝ }
     ensures { λ _. ⌜ now (out .exit) ≡ laidAt (now (out .entry)) 0 (hash (take (len - 32) (drop 32 (now (out .entry))))) ⌝ }
 {
     let h = blake3::hash(&out[32..len]);
