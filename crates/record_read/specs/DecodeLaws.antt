@@ -1,0 +1,157 @@
+-- What decoding answers at each of its tests, and a payload's parts by their places in the record.
+-- Assumes nothing.
+use mathlib.Core.Path.{_≡_, refl, sym, ap, _∙_}
+use mathlib.Core.Bool.{true, false}
+use mathlib.Core.Option.{none, some}
+use mathlib.Core.List.{List, _++_, append-nil}
+use Prim.Native.Nat.{ℕ, _+_, _-_, _*_, _^_, _≤_, _<_}
+use native.Mathlib.Decide.{decLt}
+use native.Mathlib.Omega.{arith}
+use lib.ListN.{length, take, drop}
+use lib.Seq.{paste, drop-drop, take-take, drop-length}
+use borrow.Author.Tests.{le-ltb, lt-ltb, le-leb, lt-leb}
+use Rattle.base.specs.Logic.{eqbList, overlay}
+use Rattle.base.specs.Bytes.{unle}
+use Rattle.base.specs.Answers.{refused, taken}
+use Rattle.base.specs.declared.Refusal.the-variants.{ShortRecord, FarLength, Mismatch, Misfit}
+use Rattle.base.specs.declared.Answer.the-variants.{Taken}
+use Rattle.slices.specs.Laws.{part-front, length-part, drop-take, paste-start}
+use Rattle.slices.specs.NumberLaws.{readLe-at, readLe-short}
+use Rattle.cell_nursery.specs.Entries.{cellBytes}
+use Rattle.cell_nursery.specs.Items.{Delta, deltaOf}
+use Rattle.delta_items.specs.Walk.{insertsIn, insertsLen, itemsFit, deltaIn}
+use Rattle.delta_items.specs.WalkLaws.{delta-whole, delta-none, fit-inserts, inserts-cells, length-inserts, length-hashes}
+use Rattle.format.specs.Payload.{payloadOf}
+use Rattle.format.specs.Record.{decode, statsOf}
+use Rattle.format.specs.Calls.{decodedOf, decodeCall}
+use Rattle.record_read.specs.Judged.{decodingOf, payloadCall}
+
+-- ---- the tests before the payload's
+
+module _ (hash : List ℕ → List ℕ) (bs : List ℕ) where
+  -- the length that is stated
+  abbrev pub statedLen : ℕ
+  statedLen = unle (take 8 (drop 32 bs))
+
+  pub decode-short : length bs < 40 → decodeCall hash bs ≡ decodedOf (refused ShortRecord)
+  unfolding decodeCall decode
+  decode-short h = rw (lt-ltb (length bs) 40 h)
+
+  module _ (whole : 40 ≤ length bs) where
+    pub decode-far : 2 ^ 64 - 8 ≤ statedLen → decodeCall hash bs ≡ decodedOf (refused FarLength)
+    unfolding decodeCall decode
+    decode-far f = rw (le-ltb (length bs) 40 whole, le-leb (2 ^ 64 - 8) statedLen f)
+
+    module _ (near : statedLen < 2 ^ 64 - 8) where
+      pub decode-cut : length bs < 40 + statedLen → decodeCall hash bs ≡ decodedOf (refused ShortRecord)
+      unfolding decodeCall decode
+      decode-cut h = rw (le-ltb (length bs) 40 whole, lt-leb (2 ^ 64 - 8) statedLen near, lt-ltb (length bs) (40 + statedLen) h)
+
+      module _ (long : 40 + statedLen ≤ length bs) where
+        pub decode-mismatch : eqbList (hash (take (8 + statedLen) (drop 32 bs))) (take 32 bs) ≡ false → decodeCall hash bs ≡ decodedOf (refused Mismatch)
+        unfolding decodeCall decode
+        decode-mismatch e = rw (le-ltb (length bs) 40 whole, lt-leb (2 ^ 64 - 8) statedLen near, le-ltb (length bs) (40 + statedLen) long, e)
+
+        pub decode-payload : eqbList (hash (take (8 + statedLen) (drop 32 bs))) (take 32 bs) ≡ true → decodeCall hash bs ≡ payloadCall statedLen bs
+        unfolding decodeCall decode payloadCall decodingOf
+        decode-payload e = rw (le-ltb (length bs) 40 whole, lt-leb (2 ^ 64 - 8) statedLen near, le-ltb (length bs) (40 + statedLen) long, e)
+
+-- ---- a payload under 16 bytes is none, and one of 16 is its numbers and the delta of the rest
+
+pub payload-short : (p : List ℕ) → length p < 16 → payloadOf p ≡ none
+unfolding payloadOf
+payload-short p h = elim (decLt (length p) 8) [ yes a ↦ rw (readLe-short 8 0 p (omega arith) a) | no a ↦ counts a ]
+  where
+    counts : ¬ (length p < 8) → payloadOf p ≡ none
+    counts a = elim (decLt (length p) 12) [
+      | yes b ↦ rw (readLe-at 8 0 p (omega arith), readLe-short 4 8 p (omega arith) b)
+      | no b ↦ rw (readLe-at 8 0 p (omega arith), readLe-at 4 8 p (omega arith), readLe-short 4 12 p (omega arith) h)
+    ]
+
+module _ (p : List ℕ) (long : 16 ≤ length p) where
+  pub payload-past : deltaOf 2 (unle (take 4 (drop 8 p))) (unle (take 4 (drop 12 p))) (drop 16 p) ≡ none → payloadOf p ≡ none
+  unfolding payloadOf
+  payload-past e = rw (readLe-at 8 0 p (omega arith), readLe-at 4 8 p (omega arith), readLe-at 4 12 p (omega arith), e)
+
+  pub payload-items : (d : Delta) → deltaOf 2 (unle (take 4 (drop 8 p))) (unle (take 4 (drop 12 p))) (drop 16 p) ≡ some d
+      → payloadOf p ≡ some (record { id = unle (take 8 p); delta = d })
+  unfolding payloadOf
+  payload-items d e = rw (readLe-at 8 0 p (omega arith), readLe-at 4 8 p (omega arith), readLe-at 4 12 p (omega arith), e)
+
+-- ---- the payload of n bytes of a record, by places in the record
+
+-- the items
+abbrev pub itemsOf : ℕ → List ℕ → List ℕ
+itemsOf n bs = take (40 + n - 56) (drop 56 bs)
+
+module _ (n : ℕ) (bs : List ℕ) (long : 40 + n ≤ length bs) where
+  length-payload : length (take n (drop 40 bs)) ≡ n
+  length-payload = length-part bs 40 n long
+
+  pub misfit-short : n < 16 → payloadCall n bs ≡ decodedOf (refused Misfit)
+  unfolding payloadCall
+  misfit-short h = rw (payload-short (take n (drop 40 bs)) (omega (arith, length-payload)))
+
+  -- x inserts and y removes are stated
+  module _ (head : 16 ≤ n) (x y : ℕ) (inserts : x ≡ unle (take 4 (drop 48 bs))) (removes : y ≡ unle (take 4 (drop 52 bs))) where
+    first-eight : take 8 (take n (drop 40 bs)) ≡ take 8 (drop 40 bs)
+    first-eight = take-take 8 n (drop 40 bs) (omega arith)
+
+    part-in : (k i : ℕ) → i + k ≤ n → take k (drop i (take n (drop 40 bs))) ≡ take k (drop (40 + i) bs)
+    part-in k i h = part-front k i n (drop 40 bs) h ∙ ap (λ (l : List ℕ). take k l) (drop-drop i 40 bs)
+
+    items-in : drop 16 (take n (drop 40 bs)) ≡ itemsOf n bs
+    items-in =
+        let e : 16 + (n - 16) ≡ n = omega arith in
+        let f : n - 16 ≡ 40 + n - 56 = omega arith in
+        ap (λ (k : ℕ). drop 16 (take k (drop 40 bs))) (sym e)
+        ∙ drop-take 16 (n - 16) (drop 40 bs)
+        ∙ rw (drop-drop 16 40 bs, f)
+
+    delta-in : deltaOf 2 (unle (take 4 (drop 8 (take n (drop 40 bs))))) (unle (take 4 (drop 12 (take n (drop 40 bs))))) (drop 16 (take n (drop 40 bs))) ≡ deltaOf 2 x y (itemsOf n bs)
+    delta-in = rw (part-in 4 8 (omega arith), part-in 4 12 (omega arith), items-in, inserts, removes)
+
+    -- items that run past the payload
+    pub misfit-past : itemsFit 2 x y (itemsOf n bs) ≡ false → payloadCall n bs ≡ decodedOf (refused Misfit)
+    unfolding payloadCall
+    misfit-past e =
+        rw (payload-past (take n (drop 40 bs)) (omega (arith, length-payload)) (delta-in ∙ delta-none 2 x y (itemsOf n bs) (omega arith) e))
+
+    -- a payload that is taken, whose removes begin at a place of its items
+    module _ (at : ℕ) (fit : itemsFit 2 x y (itemsOf n bs) ≡ true) (place : at ≡ insertsLen 2 x (itemsOf n bs)) where
+      cells : at ≡ x * 46 + cellBytes (insertsIn 2 x (itemsOf n bs))
+      cells = place ∙ inserts-cells 2 x (itemsOf n bs) (fit-inserts 2 x y (itemsOf n bs) fit)
+
+      pub heads-fit : x * 46 ≤ at
+      heads-fit = omega (arith, cells)
+
+      pub payload-taken : payloadCall n bs
+          ≡ record {
+            answer = Taken;
+            id = unle (take 8 (drop 40 bs));
+            hash = take 32 bs;
+            «items_at» = 56;
+            «items_len» = n - 16;
+            stats = record {
+              «payload_bytes» = n;
+              «metadata_bytes» = 16 + 46 * x + 32 * y;
+              «cell_bytes» = at - x * 46;
+              «insert_ops» = x;
+              «remove_ops» = y;
+            };
+          }
+      unfolding payloadCall decodedOf decodingOf statsOf deltaIn
+      payload-taken =
+          let c : cellBytes (insertsIn 2 x (itemsOf n bs)) ≡ at - x * 46 = omega (arith, cells) in
+          rw (
+            payload-items (take n (drop 40 bs)) (omega (arith, length-payload)) (deltaIn 2 x y (itemsOf n bs)) (delta-in ∙ delta-whole 2 x y (itemsOf n bs) fit),
+            first-eight,
+            length-inserts 2 x (itemsOf n bs),
+            length-hashes y (drop (insertsLen 2 x (itemsOf n bs)) (itemsOf n bs)),
+            c,
+          )
+
+-- ---- an array that a slice of its length was copied over
+pub copied-over : (t x : List ℕ) → length t ≡ length x → paste t 0 x (length x) ≡ x
+unfolding overlay
+copied-over t x e = paste-start t x (length x) refl ∙ ap (λ (l : List ℕ). x ++ l) (ap (λ (k : ℕ). drop k t) (sym e) ∙ drop-length t) ∙ append-nil x

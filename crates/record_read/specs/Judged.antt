@@ -1,0 +1,17 @@
+-- A record whose length and hash are right, by its payload of n bytes.
+-- Assumes nothing.
+use Prim.Native.Nat.{ℕ}
+use mathlib.Core.List.{List}
+use lib.ListN.{take, drop}
+use Rattle.base.specs.Answers.{taken, _>>=_, orRefuse}
+use Rattle.base.specs.declared.Refusal.the-variants.{Misfit}
+use Rattle.format.specs.declared.Decoded.{Decoded}
+use Rattle.format.specs.Payload.{Payload, payloadOf}
+use Rattle.format.specs.Record.{Decoding, statsOf}
+use Rattle.format.specs.Calls.{decodedOf}
+
+unfoldable pub decodingOf : ℕ → List ℕ → Payload → Decoding
+decodingOf n bs p = record { id = p .id; hash = take 32 bs; delta = p .delta; stats = statsOf n (p .delta) }
+
+unfoldable pub payloadCall : ℕ → List ℕ → Decoded
+payloadCall n bs = decodedOf (orRefuse Misfit (payloadOf (take n (drop 40 bs))) >>= λ p. taken (decodingOf n bs p))

@@ -1,0 +1,110 @@
+// Decoding the record that bytes start with: its length, its hash and its payload are judged in this order. Of the bytes only the hash is copied.
+use base::Answer;
+use base::Refusal;
+use byte_numbers::read_le32;
+use byte_numbers::read_le64;
+use byte_slices::copy_at;
+use byte_slices::equal;
+use delta_items::End;
+use delta_items::cell_bytes;
+use delta_items::removes_at;
+use format::Decoded;
+use format::RecordStats;
+use format::metadata_len;
+use format::no_stats;
+ghost use mathlib.Core.Path.{_≡_};
+ghost use Prim.Native.Nat.{_+_, _≤_};
+ghost use lib.ListN.{length, take, drop};
+ghost use Rattle.base.specs.Logic.{eqbList};
+ghost use Rattle.base.specs.Answers.{refused};
+ghost use Rattle.blake3.specs.Spec.{hash};
+ghost use Rattle.format.specs.Calls.{decodedOf, decodeCall};
+ghost use Rattle.record_read.specs.Judged.{payloadCall};
+
+// What stands beside a refusal.
+fn refusal(r: Refusal) -> Decoded
+    ensures { λ d. ⌜ d ≡ decodedOf (refused r) ⌝ }
+{
+    let stats = no_stats();
+    Decoded {
+        answer: Answer::Refused(r),
+        id: 0,
+        hash: [0; 32],
+        items_at: 0,
+        items_len: 0,
+        stats,
+    }
+}
+
+// The hash that a record states.
+fn stated_hash(s: &[u8]) -> [u8; 32]
+    requires { ⌜ 32 ≤ length (now s) ⌝ }
+    ensures { λ r. ⌜ r ≡ take 32 (now (s .entry)) ⌝ }
+{
+    let mut h = [0u8; 32];
+    copy_at(&mut h, 0, &s[0..32]);
+    h
+}
+
+// Whether that is the hash of the length and of the n bytes of payload behind it.
+fn hash_matches(s: &[u8], n: usize) -> bool
+    requires { ⌜ 40 + n ≤ length (now s) ⌝ }
+    ensures { λ r. ⌜ r ≡ eqbList (hash (take (8 + n) (drop 32 (now (s .entry))))) (take 32 (now (s .entry))) ⌝ }
+{
+    let end = 40 + n;
+    let h = blake3::hash(&s[32..end]);
+    equal(&h, &s[0..32])
+}
+
+// A record whose length and hash are right, by the n bytes of its payload.
+fn decode_payload(s: &[u8], n: usize) -> Decoded
+    requires { ⌜ 40 + n ≤ length (now s) ⌝ }
+    ensures { λ r. ⌜ r ≡ payloadCall n (now (s .entry)) ⌝ }
+{
+    if n < 16 {
+        return refusal(Refusal::Misfit);
+    }
+    let inserts = read_le32(s, 48) as u64;
+    let removes = read_le32(s, 52) as u64;
+    let past = 40 + n;
+    let End::At(at) = removes_at(&s[56..past], false, inserts, removes) else {
+        return refusal(Refusal::Misfit);
+    };
+    let hash = stated_hash(s);
+    let stats = RecordStats {
+        payload_bytes: n as u64,
+        metadata_bytes: metadata_len(inserts, removes),
+        cell_bytes: cell_bytes(at, false, inserts) as u64,
+        insert_ops: inserts,
+        remove_ops: removes,
+    };
+    Decoded {
+        answer: Answer::Taken,
+        id: read_le64(s, 40),
+        hash,
+        items_at: 56,
+        items_len: n - 16,
+        stats,
+    }
+}
+
+// Decodes the record that s starts with; what follows it is ignored.
+pub fn decode_record(s: &[u8]) -> Decoded
+    ensures { λ r. ⌜ r ≡ decodeCall hash (now (s .entry)) ⌝ }
+{
+    if s.len() < 40 {
+        return refusal(Refusal::ShortRecord);
+    }
+    let n = read_le64(s, 32);
+    if 18446744073709551608 <= n {
+        return refusal(Refusal::FarLength);
+    }
+    let n = n as usize;
+    if s.len() - 40 < n {
+        return refusal(Refusal::ShortRecord);
+    }
+    if !hash_matches(s, n) {
+        return refusal(Refusal::Mismatch);
+    }
+    decode_payload(s, n)
+}

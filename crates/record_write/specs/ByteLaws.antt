@@ -1,0 +1,130 @@
+-- Items as a record has them: what is read of bytes is written as it stood; and bytes laid end to end.
+-- Assumes nothing.
+use mathlib.Core.Path.{_≡_, refl, sym, ap, _∙_}
+use mathlib.Core.Bool.{true, false}
+use mathlib.Core.List.{List, [], _∷_, _++_, append-assoc, reverse, reverse-append, reverse-reverse}
+use Prim.Native.Nat.{ℕ, zero, suc, _+_, _*_, _≤_, _<_}
+use native.Mathlib.Nat.{mul-suc}
+use native.Mathlib.Omega.{arith}
+use lib.ListN.{length, take, drop, getD, length-append, length-drop, length-reverse}
+use lib.Seq.{paste, take-add, getD-drop, getD-take, length-paste, take-length}
+use lib.Dec.{ltb}
+use borrow.Author.Tests.{ltb-false}
+use Rattle.base.specs.Logic.{all, any, flat, sumOf, overlay}
+use Rattle.base.specs.Bytes.{digits, number}
+use Rattle.base.specs.Laws.{length-digits, digits-number, and-left, and-right, and-both}
+use Rattle.base.specs.ListLaws.{all-append, or-false}
+use Rattle.slices.specs.Laws.{length-part, paste-append, paste-prepend, paste-start, part-paste}
+use Rattle.slices.specs.NumberLaws.{all-below, digits-unle}
+use Rattle.cell_nursery.specs.Entries.{Entry, cellBytes, hashBytes, insertBytes}
+use Rattle.cell_nursery.specs.ItemLaws.{length-hashBytes}
+use Rattle.delta_items.specs.Walk.{hashIn, cellLen, cellIn, insertIn, insertLen, insertsIn, insertsFit, longCell, hashesIn}
+use Rattle.delta_items.specs.WalkLaws.{cell-length, fit-head, fit-tail}
+use Rattle.record_write.specs.Laid.{laidAt}
+
+-- ---- bytes
+abbrev pub Bytes : List ℕ → Type 0
+Bytes s = (i : ℕ) → getD s i 0 < 256
+
+pub bytes-drop : (n : ℕ) (s : List ℕ) → Bytes s → Bytes (drop n s)
+bytes-drop n s b i = rw (getD-drop n s i 0) (b (n + i))
+
+all-part : (s : List ℕ) (at k : ℕ) → at + k ≤ length s → Bytes s → all (λ x. ltb x 256) (take k (drop at s)) ≡ true
+all-part s at k h b =
+    all-below 256 (take k (drop at s)) (λ i l.
+    let m : length (take k (drop at s)) ≡ k = length-part s at k h in
+    rw (getD-take k (drop at s) i 0 (omega arith), getD-drop at s i 0) (b (at + i)))
+
+all-reverse : (xs : List ℕ) → all (λ x. ltb x 256) xs ≡ true → all (λ x. ltb x 256) (reverse xs) ≡ true
+unfolding all
+all-reverse [] e = refl
+all-reverse (x ∷ xs) e =
+    rw (reverse-append (x ∷ []) xs)
+    (all-append (λ y. ltb y 256) (reverse xs) (x ∷ []) (all-reverse xs (and-right (ltb x 256) (all (λ y. ltb y 256) xs) e))
+    (and-both (ltb x 256) true (and-left (ltb x 256) (all (λ y. ltb y 256) xs) e) refl))
+
+-- ---- items
+
+pub hash-bytes : (bs : List ℕ) → Bytes bs → 32 ≤ length bs → hashBytes (hashIn bs) ≡ take 32 bs
+hash-bytes bs b h =
+    let x : List ℕ = take 32 bs in
+    let l : length (reverse x) ≡ 32 = length-reverse x ∙ length-part bs 0 32 (omega arith) in
+    let d : digits 256 (length (reverse x)) (number 256 (reverse x)) ≡ reverse x = digits-number 256 (reverse x) (all-reverse x (all-part bs 0 32 (omega arith) b)) in
+    let e : digits 256 32 (number 256 (reverse x)) ≡ reverse x = ap (λ (k : ℕ). digits 256 k (number 256 (reverse x))) (sym l) ∙ d in
+    ap reverse e ∙ reverse-reverse x
+
+pub hashes-bytes : (m : ℕ) (bs : List ℕ) → Bytes bs → 32 * m ≤ length bs → flat hashBytes (hashesIn m bs) ≡ take (32 * m) bs
+unfolding flat hashesIn
+hashes-bytes zero bs b h = refl
+hashes-bytes (suc m) bs b h =
+    let s = mul-suc 32 m in
+    let l = length-drop 32 bs in
+    let e : 32 * suc m ≡ 32 + 32 * m = omega arith in
+    rw (e, hash-bytes bs b (omega arith), hashes-bytes m (drop 32 bs) (bytes-drop 32 bs b) (omega arith), take-add 32 (32 * m) bs)
+
+module _ (w : ℕ) (bs : List ℕ) (whole : insertLen w bs ≤ length bs) where
+  pub insert-bytes : Bytes bs → insertBytes (insertIn w bs) ≡ take 44 bs ++ (digits 256 2 (cellLen w bs) ++ cellIn w bs)
+  unfolding insertBytes insertIn
+  insert-bytes b =
+      rw (
+        hash-bytes bs b (omega arith),
+        digits-unle bs 32 8 (omega arith) b,
+        digits-unle bs 40 4 (omega arith) b,
+        cell-length w bs whole,
+        ← take-add 32 8 bs,
+        ← take-add 40 4 bs,
+        append-assoc (take 44 bs) (digits 256 2 (cellLen w bs)) (cellIn w bs),
+      )
+
+  pub length-insert : length (insertBytes (insertIn w bs)) ≡ 46 + cellLen w bs
+  unfolding insertBytes insertIn
+  length-insert = simp (length-append, length-digits, length-hashBytes, cell-length w bs whole)
+
+pub length-insert-list : (w n : ℕ) (bs : List ℕ) → insertsFit w n bs ≡ true → length (flat insertBytes (insertsIn w n bs)) ≡ 46 * n + cellBytes (insertsIn w n bs)
+unfolding flat insertsIn insertIn cellBytes sumOf
+length-insert-list w zero bs f = refl
+length-insert-list w (suc n) bs f =
+    let h = fit-head w n bs f in
+    let r = length-insert-list w n (drop (insertLen w bs) bs) (fit-tail w n bs f) in
+    let l = length-insert w bs h in
+    let a = length-append (insertBytes (insertIn w bs)) (flat insertBytes (insertsIn w n (drop (insertLen w bs) bs))) in
+    omega (arith, a, l, r, mul-suc 46 n, cell-length w bs h)
+
+pub length-hash-list : (hs : List ℕ) → length (flat hashBytes hs) ≡ 32 * length hs
+unfolding flat
+length-hash-list [] = refl
+length-hash-list (h ∷ hs) =
+    rw (length-append (hashBytes h) (flat hashBytes hs), length-hashBytes h, length-hash-list hs) (omega (arith, mul-suc 32 (length hs)))
+
+-- cells that are each within the limit
+pub few-cells : (es : List Entry) → longCell es ≡ false → cellBytes es ≤ 65535 * length es
+unfolding any cellBytes sumOf
+few-cells [] e = omega arith
+few-cells (x ∷ es) e =
+    let p = or-false (ltb 65535 (length (x .cell))) (longCell es) e in
+    omega (arith, ltb-false 65535 (length (x .cell)) (p .0), few-cells es (p .1), mul-suc 65535 (length es))
+
+-- ---- bytes laid end to end
+
+pub length-laid : (t : List ℕ) (at : ℕ) (x : List ℕ) → at + length x ≤ length t → length (laidAt t at x) ≡ length t
+length-laid t at x h = length-paste t at x (length x) h (omega arith)
+
+pub laid-append : (t : List ℕ) (at : ℕ) (x y : List ℕ) (m : ℕ) → length x ≡ m → at ≤ length t → laidAt (laidAt t at x) (at + m) y ≡ laidAt t at (x ++ y)
+laid-append t at x y m e h = rw (← e) (paste-append t at x y (length x) (length y) refl refl h ∙ rw (length-append x y))
+
+-- three of them
+pub laid-three : (t : List ℕ) (at : ℕ) (x y z : List ℕ) (j k : ℕ) → length x ≡ j → length y ≡ k → at + (j + k) ≤ length t
+    → laidAt (laidAt (laidAt t at x) (at + j) y) (at + j + k) z ≡ laidAt t at (x ++ (y ++ z))
+laid-three t at x y z j k p q h =
+    let l = length-laid t at x (omega arith) in
+    laid-append (laidAt t at x) (at + j) y z k q (omega arith) ∙ laid-append t at x (y ++ z) j p (omega arith)
+
+-- 32 bytes laid before others, and what stands behind them
+pub laid-front : (t x y : List ℕ) → length x ≡ 32 → 32 ≤ length t → laidAt (laidAt t 32 y) 0 x ≡ overlay (x ++ y) t
+laid-front t x y e h =
+    ap (λ (k : ℕ). paste (laidAt t 32 y) 0 x k) e
+    ∙ paste-prepend t 0 x y 32 (length y) e refl (omega arith)
+    ∙ paste-start t (x ++ y) (32 + length y) (rw (length-append x y, e))
+
+pub laid-part : (t : List ℕ) (at : ℕ) (x : List ℕ) (k : ℕ) → length x ≡ k → at ≤ length t → take k (drop at (laidAt t at x)) ≡ x
+laid-part t at x k e h = rw (← e) (part-paste t at x (length x) h (omega arith) ∙ take-length x)
