@@ -30,7 +30,7 @@ use Rattle.cell_nursery.specs.LayoutLaws.{Held, held, number-entries, number-wa
 use Rattle.cell_nursery.specs.EntryLaws.{number-insert, bytes-insert, waiting-insert}
 use Rattle.cell_nursery.specs.StepLaws.{later, bytesBefore, bytes-append, place-at, place-end, entries-inserted, cells-inserted, waiting-inserted}
 use Rattle.hash_words.specs.WideLaws.{wordsOf, key-hash}
-use Rattle.nursery_steps.specs.Rows.{rowFor, waiterFor, insertedAt}
+use Rattle.nursery_rows.specs.Rows.{rowFor, waiterFor, insertedAt}
 use Rattle.nursery_steps.specs.Steps.{newEntry, left, Insertable}
 
 -- the words of a key are those of its number

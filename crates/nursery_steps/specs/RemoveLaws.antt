@@ -22,7 +22,7 @@ use Rattle.cell_nursery.specs.Calls.{laid}
 use Rattle.cell_nursery.specs.HashLaws.{U64}
 use Rattle.cell_nursery.specs.LayoutLaws.{Held, held, number-entries, entries-keys, bytes-same}
 use Rattle.cell_nursery.specs.StepLaws.{earlier, bytesBefore, bytes-append, place-at, len-at, entries-hit, rows-kept, key-absent, entries-left, entries-removed, cells-removed, waiting-removed}
-use Rattle.nursery_steps.specs.Rows.{other}
+use Rattle.nursery_rows.specs.Rows.{other}
 use Rattle.nursery_steps.specs.Steps.{left}
 use Rattle.nursery_steps.specs.InsertLaws.{before-le}
 

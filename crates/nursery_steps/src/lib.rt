@@ -1,10 +1,9 @@
 // What one insert and one remove do in the nursery's lent tables, where the record and the tables hold a state.
 
-mod cells;
-mod entries;
-mod waiting;
-
 use cell_nursery::Nursery;
+use nursery_rows::cells;
+use nursery_rows::entries;
+use nursery_rows::waiting;
 use rows::Wide;
 ghost use mathlib.Core.Path.{_≡_};
 ghost use mathlib.Core.Bool.{true};
