@@ -1,0 +1,2 @@
+-- `WideLaws`: a key of four words and the 32 bytes of its hash.
+pub mod WideLaws
