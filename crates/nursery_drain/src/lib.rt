@@ -128,20 +128,23 @@ pub fn drain_promotable_held(
 {
     let k = due_rows(r, ws, round);
     if !rows_fit(r, es, ws, cs, k, out.len()) {
+        // no waiting row goes with it
+        let nursery = r;
         return Drained {
             answer: Answer::Refused(Refusal::OutputFull),
             len: 0,
-            nursery: r,
+            nursery,
         };
     }
     let len = write_rows(r, es, ws, cs, k, out);
     rows::remove_row(ws, 0, r.waiting * 5, k * 5);
+    let waiting = r.waiting - k;
     Drained {
         answer: Answer::Taken,
         len,
         nursery: Nursery {
             entries: r.entries,
-            waiting: r.waiting - k,
+            waiting,
             cell_bytes: r.cell_bytes,
         },
     }

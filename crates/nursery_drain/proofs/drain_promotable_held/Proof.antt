@@ -67,8 +67,8 @@ mul-remove-row-2 c = omega (arith, all-held (c .before .before .before .before .
 remove-row-requires : tie.Need-remove-row-requires
 remove-row-requires c κs = let g = few (c .before .before .before .before .before .before .before .before .before .before) in let h = all-held (c .before .before .before .before .before .before .before .before .before .before .before .before) .waiting .laid .fits in (omega arith, omega arith)
 
-sub-t14 : tie.Need-sub-t14
-sub-t14 c = few (c .before .before .before .before .before .before .before .before .before .before .before .before .before .before)
+sub-waiting : tie.Need-sub-waiting
+sub-waiting c = omega (arith, few (c .before .before .before .before .before .before .before .before .before .before .before .before .before .before))
 
 same-length-2 : tie.Need-same-length-2
 same-length-2 c = search needs
@@ -98,7 +98,7 @@ drain-promotable-held-spec =
     mul-remove-row
     mul-remove-row-2
     remove-row-requires
-    sub-t14
+    sub-waiting
     same-length-2
     same-length-3
     returns-2)
