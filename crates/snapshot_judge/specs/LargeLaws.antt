@@ -3,10 +3,11 @@
 use mathlib.Core.Path.{_≡_, refl, sym, ap, _∙_}
 use mathlib.Core.Bool.{Bool, true, false, _&&_, _||_, true≢false}
 use mathlib.Core.List.{List, [], _∷_, _++_, map}
-use Prim.Native.Nat.{ℕ, zero, suc, _+_, _≤_, _<_}
+use Prim.Native.Nat.{ℕ, zero, suc, _+_, _-_, _*_, _≤_, _<_}
 use native.Mathlib.Omega.{arith}
 use native.Mathlib.Decide.{decLt, decLe}
 use lib.ListN.{length, take, drop}
+use lib.Seq.{drop-drop}
 use lib.Dec.{leb, ltb, eqb}
 use borrow.Author.Tests.{le-leb, lt-leb, le-ltb, lt-ltb, leb-true, leb-false, ltb-true, ltb-false, eqb-true, eqb-false, eq-eqb, ne-eqb}
 use Rattle.base.specs.Logic.{pick, all, any, keep, fold}
@@ -42,15 +43,24 @@ module _ (i n : ℕ) (two : 2 ≤ n) (es : List Entry) where
   unfolding setCount putRows rowOf keep
   from-set lo h =
       let p : Entry → Bool = λ e. leb lo (e .idx) in
-      rw (le-leb 2 n two, keep-append p (keep (λ e. ltb (e .idx) i) es) (entry i n ∷ keep (λ e. leb (suc i) (e .idx)) es), le-leb lo i h,
-      keep-swap p (λ e. ltb (e .idx) i) es, keep-swap p (λ e. leb (suc i) (e .idx)) es)
+      rw (
+        le-leb 2 n two,
+        keep-append p (keep (λ e. ltb (e .idx) i) es) (entry i n ∷ keep (λ e. leb (suc i) (e .idx)) es),
+        le-leb lo i h,
+        keep-swap p (λ e. ltb (e .idx) i) es,
+        keep-swap p (λ e. leb (suc i) (e .idx)) es,
+      )
 
   from-unset : (lo : ℕ) → i < lo → fromIdx lo (setCount i n es) ≡ fromIdx lo es
   unfolding setCount putRows rowOf keep
   from-unset lo h =
       let p : Entry → Bool = λ e. leb lo (e .idx) in
-      rw (le-leb 2 n two, keep-append p (keep (λ e. ltb (e .idx) i) es) (entry i n ∷ keep (λ e. leb (suc i) (e .idx)) es), lt-leb lo i h,
-      keep-empty p (λ e. ltb (e .idx) i) (λ e q. lt-leb lo (e .idx) (omega (arith, ltb-true (e .idx) i q))) (keep (λ e. ltb (e .idx) i) es) (all-kept (λ e. ltb (e .idx) i) es))
+      rw (
+        le-leb 2 n two,
+        keep-append p (keep (λ e. ltb (e .idx) i) es) (entry i n ∷ keep (λ e. leb (suc i) (e .idx)) es),
+        lt-leb lo i h,
+        keep-empty p (λ e. ltb (e .idx) i) (λ e q. lt-leb lo (e .idx) (omega (arith, ltb-true (e .idx) i q))) (keep (λ e. ltb (e .idx) i) es) (all-kept (λ e. ltb (e .idx) i) es),
+      )
       (keep-narrow p (λ e. leb (suc i) (e .idx)) (λ e q. le-leb (suc i) (e .idx) (omega (arith, leb-true lo (e .idx) q))) es)
 
   -- a count set before all, or at the first
@@ -135,3 +145,63 @@ no-large lo = record { rows = refl; from = λ e. absurd (true≢false (sym e)); 
 -- the first from lo on, of all
 pub scanned : (lo : ℕ) (raw : List Entry) → any low raw ≡ false → Large lo (setAll raw []) (fold (lowerFrom lo) raw noHead)
 scanned lo raw a = scan-all lo raw [] noHead a (no-large lo)
+
+-- ---- the counts one after the other
+module _ (s : List ℕ) (at n i : ℕ) (h : i < n) where
+  pub raw-next : rawOf (n - i) (drop (at + 16 * i) s)
+      ≡ entry (unle (take 8 (drop (at + 16 * i) s))) (unle (take 8 (drop (at + 16 * i + 8) s))) ∷ rawOf (n - (i + 1)) (drop (at + 16 * (i + 1)) s)
+  unfolding rawOf
+  raw-next =
+      let e : n - i ≡ suc (n - (i + 1)) = omega arith in
+      let z : at + 16 * i + 16 ≡ at + 16 * (i + 1) = omega arith in
+      rw (e, drop-drop 8 (at + 16 * i) s, drop-drop 16 (at + 16 * i) s, z)
+
+pub raw-end : (s : List ℕ) (at n i : ℕ) → n ≤ i → rawOf (n - i) (drop (at + 16 * i) s) ≡ []
+unfolding rawOf
+raw-end s at n i h = let e : n - i ≡ 0 = omega arith in rw e
+
+pub raw-start : (s : List ℕ) (at n : ℕ) → rawOf (n - 0) (drop (at + 16 * 0) s) ≡ rawOf n (drop at s)
+raw-start s at n = let e : n - 0 ≡ n = omega arith in let z : at + 16 * 0 ≡ at = omega arith in rw (e, z)
+
+-- ---- the lower of two
+module _ (lo i n : ℕ) (h : Head) where
+  pub from-unasked : i < lo → h ≡ lowerFrom lo (entry i n) h
+  from-unasked g = rw (lt-ltb i lo g)
+
+  pub from-kept : lo ≤ i → h .found ≡ true → h .idx < i → h ≡ lowerFrom lo (entry i n) h
+  from-kept g f b = rw (le-ltb i lo g, f, lt-ltb (h .idx) i b)
+
+  pub from-lower : lo ≤ i → i ≤ h .idx → record { found = true; idx = i; count = n } ≡ lowerFrom lo (entry i n) h
+  from-lower g b = rw (le-ltb i lo g, le-ltb (h .idx) i b) (go (h .found))
+    where
+      go : (q : Bool) → record { found = true; idx = i; count = n } ≡ pick (q && false) h (record { found = true; idx = i; count = n })
+      go true = refl
+      go false = refl
+
+  pub from-first : lo ≤ i → h .found ≡ false → record { found = true; idx = i; count = n } ≡ lowerFrom lo (entry i n) h
+  from-first g f = rw (le-ltb i lo g, f)
+
+-- ---- tests and the lowest, a count at a time
+module _ (s : List ℕ) (at n i : ℕ) (h : i < n) where
+  pub low-found : unle (take 8 (drop (at + 16 * i + 8) s)) < 257 → true ≡ any low (rawOf (n - i) (drop (at + 16 * i) s))
+  unfolding any
+  low-found g = rw (raw-next s at n i h, lt-ltb (unle (take 8 (drop (at + 16 * i + 8) s))) 257 g)
+
+  pub low-passed : 257 ≤ unle (take 8 (drop (at + 16 * i + 8) s))
+      → any low (rawOf (n - i) (drop (at + 16 * i) s)) ≡ any low (rawOf (n - (i + 1)) (drop (at + 16 * (i + 1)) s))
+  unfolding any
+  low-passed g = rw (raw-next s at n i h, le-ltb (unle (take 8 (drop (at + 16 * i + 8) s))) 257 g)
+
+pub low-none : (s : List ℕ) (at n i : ℕ) → n ≤ i → false ≡ any low (rawOf (n - i) (drop (at + 16 * i) s))
+unfolding any
+low-none s at n i h = rw (raw-end s at n i h)
+
+pub scan-next : (s : List ℕ) (at n i lo : ℕ) (h : Head) → i < n
+    → fold (lowerFrom lo) (rawOf (n - i) (drop (at + 16 * i) s)) h
+    ≡ fold (lowerFrom lo) (rawOf (n - (i + 1)) (drop (at + 16 * (i + 1)) s)) (lowerFrom lo (entry (unle (take 8 (drop (at + 16 * i) s))) (unle (take 8 (drop (at + 16 * i + 8) s)))) h)
+unfolding fold
+scan-next s at n i lo h g = ap (λ (r : List Entry). fold (lowerFrom lo) r h) (raw-next s at n i g)
+
+pub scan-end : (s : List ℕ) (at n i lo : ℕ) (h : Head) → n ≤ i → h ≡ fold (lowerFrom lo) (rawOf (n - i) (drop (at + 16 * i) s)) h
+unfolding fold
+scan-end s at n i lo h g = rw (raw-end s at n i g)

@@ -44,6 +44,10 @@ unfoldable pub layAll : ℕ → List (List ℕ) → List Entry → List Entry
 layAll k [] es = es
 layAll k (xs ∷ xss) es = layAll (suc k) xss (layBit k xs es)
 
+abbrev pub isTaken : {A : Type 0} → Outcome A → Bool
+isTaken (refused q) = false
+isTaken (taken a) = true
+
 -- what follows n payloads, or the first refusal
 unfoldable pub restAfter : ℕ → List ℕ → Outcome (List ℕ)
 restAfter zero bs = taken bs

@@ -58,14 +58,21 @@ module _ (i n : ℕ) (es : List Entry) where
   pub set-front : 2 ≤ n → Above (suc i) es → setCount i n es ≡ entry i n ∷ es
   unfolding setCount putRows
   set-front h a =
-      rw (one-row i n h, keep-empty (λ e. ltb (e .idx) i) (λ e. leb (suc i) (e .idx)) (above-not i) es a,
-      keep-whole (λ e. leb (suc i) (e .idx)) (λ e. leb (suc i) (e .idx)) (λ e p. p) es a)
+      rw (
+        one-row i n h,
+        keep-empty (λ e. ltb (e .idx) i) (λ e. leb (suc i) (e .idx)) (above-not i) es a,
+        keep-whole (λ e. leb (suc i) (e .idx)) (λ e. leb (suc i) (e .idx)) (λ e p. p) es a,
+      )
 
   pub set-hit : (m : ℕ) → 2 ≤ n → Above (suc i) es → setCount i n (entry i m ∷ es) ≡ entry i n ∷ es
   unfolding setCount putRows keep
   set-hit m h a =
-      rw (le-ltb i i (omega arith), one-row i n h, keep-empty (λ e. ltb (e .idx) i) (λ e. leb (suc i) (e .idx)) (above-not i) es a,
-      keep-whole (λ e. leb (suc i) (e .idx)) (λ e. leb (suc i) (e .idx)) (λ e p. p) es a)
+      rw (
+        le-ltb i i (omega arith),
+        one-row i n h,
+        keep-empty (λ e. ltb (e .idx) i) (λ e. leb (suc i) (e .idx)) (above-not i) es a,
+        keep-whole (λ e. leb (suc i) (e .idx)) (λ e. leb (suc i) (e .idx)) (λ e p. p) es a,
+      )
 
   pub set-behind : (e : Entry) → e .idx < i → setCount i n (e ∷ es) ≡ e ∷ setCount i n es
   unfolding setCount putRows keep

@@ -1,4 +1,10 @@
 // Whether bytes are a counters' snapshot that a table has room for: all is decided here, before the first write.
+pub mod lanes;
+pub mod large;
+pub mod sets;
+
+ghost use mathlib.Core.Path.{_≡_};
+ghost use Rattle.snapshot_judge.specs.Heads.{noHead};
 
 // A count, where one is found.
 pub struct Head {
@@ -7,6 +13,13 @@ pub struct Head {
     pub count: u64,
 }
 
-pub fn nothing() -> Head {
-    Head { found: false, idx: 0, count: 0 }
+// No count.
+fn nothing() -> Head
+    ensures { λ r. ⌜ r ≡ noHead ⌝ }
+{
+    Head {
+        found: false,
+        idx: 0,
+        count: 0,
+    }
 }
