@@ -199,6 +199,7 @@ pub record Front (lo : ℕ) (xss : List (List ℕ)) (big : List Entry) (a b f : 
   pub clash : f .found ≡ true
       → clashes (fromIdx lo big) (tierOf xss) ≡ (meet a b || clashes (fromIdx (suc (f .idx)) big) (tierOf (restOf (f .idx) xss)))
   pub bound : f .found ≡ true → all (ascendingFrom (f .idx)) xss ≡ true
+  pub from : f .found ≡ true → lo ≤ f .idx
 
 -- large counts that start behind an index are those from there on
 from-later : (lo m : ℕ) (big : List Entry) → lo ≤ m → Above m (fromIdx lo big) → fromIdx m big ≡ fromIdx lo big
@@ -220,6 +221,7 @@ module _ (lo : ℕ) (xss : List (List ℕ)) (big : List Entry) (a b : Head) (sm 
         rows = λ e. rw (r, tier-step x xss h) (large-step x (fromIdx (suc x) big) (tierOf (restOf x xss)) p q (b .count) (codeFrom 0 x xss) (lg .two f));
         clash = λ e. rw (r, tier-step x xss h, ← m) (large-clash x (fromIdx (suc x) big) (tierOf (restOf x xss)) p q (b .count) (codeFrom 0 x xss));
         bound = λ e. h;
+        from = λ e. lg .from f;
       }
 
   -- the small count is before the large ones
@@ -242,6 +244,7 @@ module _ (lo : ℕ) (xss : List (List ℕ)) (big : List Entry) (a b : Head) (sm 
             rw (r, tier-step x xss (sm .bound f), m)
             (small-clash x (fromIdx (suc x) big) (tierOf (restOf x xss)) p q (codeFrom 0 x xss) (sm .hit f));
         bound = λ e. sm .bound f;
+        from = λ e. sm .from f;
       }
 
   large-rows : b .found ≡ true → fromIdx lo big ≡ entry (b .idx) (b .count) ∷ fromIdx (suc (b .idx)) big
@@ -259,6 +262,7 @@ module _ (lo : ℕ) (xss : List (List ℕ)) (big : List Entry) (a b : Head) (sm 
         rows = λ g. absurd (true≢false (sym g ∙ f));
         clash = λ g. absurd (true≢false (sym g ∙ f));
         bound = λ g. absurd (true≢false (sym g ∙ f));
+        from = λ g. absurd (true≢false (sym g ∙ f));
       }
 
   behind-large : b .found ≡ true → a .idx < b .idx → Above (suc (a .idx)) (fromIdx lo big)
