@@ -1,4 +1,5 @@
 // Whether bytes are a counters' snapshot that a table has room for: all is decided here, before the first write.
+pub mod decide;
 pub mod judge;
 pub mod lanes;
 pub mod large;
