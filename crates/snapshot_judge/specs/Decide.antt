@@ -53,6 +53,7 @@ pub record Planned (s : List ℕ) (room : ℕ) (p : Plan) : Type 0 where
   pub rows : p .rows ≡ length (countsOf s (p .end) (p .large))
   pub fits : p .rows ≤ room
   pub below : any (far (p .next)) (countsOf s (p .end) (p .large)) ≡ false
+  pub word : p .next < 18446744073709551616
 
 abbrev pub PlanOf : List ℕ → ℕ → Verdict → Type 0
 PlanOf s room (Fits p) = Planned s room p

@@ -114,6 +114,7 @@ returns-5 c =
             rows = judged-rows (r .result) (bigOf t (a .end) n) (smallOf t 17) (j .result) (j .ensures) o;
             fits = omega arith;
             below = judged-below (r .result) (bigOf t (a .end) n) (smallOf t 17) (j .result) (j .ensures) o;
+            word = omega arith;
           };
     }
 
