@@ -18,7 +18,7 @@ use Rattle.base.specs.declared.Refusal.the-variants.{TornSnapshot, BadBitmap}
 use Rattle.slices.specs.NumberLaws.{cut-at, cut-short, readLe-at, readLe-short}
 use Rattle.roaring.specs.Read.{parse64}
 use Rattle.roaring.specs.Scan.{isSome}
-use Rattle.roaring.specs.Cursor.{membersOf}
+use Rattle.roaring_cursor.specs.Cursor.{membersOf}
 use Rattle.snapshot_judge.specs.declared.sets.End.{End}
 use Rattle.snapshot_judge.specs.declared.sets.End.the-variants.{At, Torn, Bad}
 use Rattle.snapshot_judge.specs.Payloads.{sizeOf, payloadOf, afterOf, setsOf, restAfter, isTaken}

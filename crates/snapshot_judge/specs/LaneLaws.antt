@@ -13,10 +13,10 @@ use lib.Pow.{pow-mono}
 use borrow.Author.Tests.{le-leb, lt-leb, leb-true, eqb-true, eqb-false, eq-eqb, ne-eqb}
 use Rattle.base.specs.Logic.{pick, all, ascendingFrom}
 use Rattle.counters.specs.Counts.{Entry}
-use Rattle.roaring.specs.Cursor.{Good, membersFrom, membersOf, Started, Stepped}
-use Rattle.roaring.specs.declared.cursor.Step.{Step}
-use Rattle.roaring.specs.declared.cursor.Step.the-variants.{Member, Done}
-use Rattle.roaring.specs.declared.cursor.Cursor.{Cursor}
+use Rattle.roaring_cursor.specs.Cursor.{Good, membersFrom, membersOf, Started, Stepped}
+use Rattle.roaring_cursor.specs.declared.Step.{Step}
+use Rattle.roaring_cursor.specs.declared.Step.the-variants.{Member, Done}
+use Rattle.roaring_cursor.specs.declared.Cursor.{Cursor}
 use Rattle.snapshot_judge.specs.declared.Head.{Head}
 use Rattle.snapshot_judge.specs.declared.lanes.Lane.{Lane}
 use Rattle.snapshot_judge.specs.Payloads.{sizeOf, payloadOf, setsOf}

@@ -9,7 +9,7 @@ use lib.Dec.{eqb}
 use Rattle.base.specs.Logic.{pick}
 use Rattle.roaring.specs.Read.{parse64}
 use Rattle.roaring.specs.Scan.{isSome}
-use Rattle.roaring.specs.Cursor.{Good, membersFrom}
+use Rattle.roaring_cursor.specs.Cursor.{Good, membersFrom}
 use Rattle.snapshot_judge.specs.declared.Head.{Head}
 use Rattle.snapshot_judge.specs.declared.lanes.Lane.{Lane}
 use Rattle.snapshot_judge.specs.Payloads.{payloadOf, sizeOf, setsOf}

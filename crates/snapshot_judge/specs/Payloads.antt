@@ -19,7 +19,7 @@ use Rattle.base.specs.declared.Refusal.the-variants.{TornSnapshot, BadBitmap}
 use Rattle.slices.specs.NumberLaws.{cut-at, cut-short, readLe-at, readLe-short}
 use Rattle.roaring.specs.Read.{parse64}
 use Rattle.roaring.specs.Scan.{isSome}
-use Rattle.roaring.specs.Cursor.{membersOf}
+use Rattle.roaring_cursor.specs.Cursor.{membersOf}
 use Rattle.roaring.specs.MemberLaws.{members-ascend}
 use Rattle.counters.specs.Counts.{Entry}
 use Rattle.snapshot.specs.Read.{layBit, readSets}

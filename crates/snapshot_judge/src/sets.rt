@@ -1,6 +1,6 @@
 // Where the eight payloads of a snapshot end, each led by its length.
 use byte_numbers::read_le64;
-use roaring::bitmap::is_bitmap64;
+use roaring_check::is_bitmap64;
 ghost use mathlib.Core.Path.{_≡_};
 ghost use Prim.Native.Nat.{_≤_};
 ghost use lib.ListN.{length};

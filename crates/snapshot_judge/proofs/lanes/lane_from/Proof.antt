@@ -1,5 +1,5 @@
 use mathlib.Core.Path.{subst}
-use Rattle.roaring.specs.Cursor.{Stepped}
+use Rattle.roaring_cursor.specs.Cursor.{Stepped}
 use Rattle.snapshot_judge.specs.LaneLaws.{lane-member, lane-done}
 use mathlib.Core.Path.{_≡_, refl, sym, ap, _∙_}
 use mathlib.Core.List.{List, [], _∷_, _++_, map}

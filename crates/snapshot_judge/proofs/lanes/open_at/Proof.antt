@@ -1,5 +1,5 @@
 use mathlib.Core.Path.{subst}
-use Rattle.roaring.specs.Cursor.{membersOf}
+use Rattle.roaring_cursor.specs.Cursor.{membersOf}
 use Rattle.snapshot_judge.specs.Lanes.{LaneOf}
 use Rattle.snapshot_judge.specs.LaneLaws.{payload-part}
 use mathlib.Core.Path.{_≡_, refl, sym, ap, _∙_}
