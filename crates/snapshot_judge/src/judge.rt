@@ -4,6 +4,7 @@ use crate::lanes::advance;
 use crate::lanes::open_all;
 use crate::lanes::small_head;
 use crate::large::large_head;
+use crate::large::sorted;
 ghost use mathlib.Core.Path.{_≡_};
 ghost use Rattle.snapshot_judge.specs.Heads.{firstOf, meet};
 ghost use Rattle.snapshot_judge.specs.Judge.{Readable, bigOf, smallOf, judgedFrom};
@@ -43,18 +44,19 @@ fn meets(a: Head, b: Head) -> bool
     a.idx == b.idx
 }
 
-// Both tiers, gone through by index. The small one is a pass over the sets; each step looks at all large counts, so that these
-// may come in any order.
+// Both tiers, gone through by index: a pass over the sets, and a search in the large counts for each index. Large counts that
+// don't come by ascending index are taken too, and there each index costs a pass over them.
 pub fn judge(s: &[u8], at: usize, end: usize, n: usize, next: u64) -> Judged
     requires { ⌜ Readable (now s) at end n ⌝ }
     ensures { λ r. ⌜ r ≡ judgedFrom 0 next (bigOf (now (s .entry)) end n) (smallOf (now (s .entry)) at) ⌝ }
 {
+    let ascending = sorted(s, end, n);
     let mut lanes = open_all(s, at);
     let mut lo: u64 = 0;
     let mut rows: usize = 0;
     loop {
         let a = small_head(lanes);
-        let b = large_head(s, end, n, lo);
+        let b = large_head(s, end, n, ascending, lo);
         let f = first(a, b);
         if !f.found {
             return Judged { clash: false, rows };

@@ -13,6 +13,7 @@ use snapshot_judge::lanes::advance;
 use snapshot_judge::lanes::open_all;
 use snapshot_judge::lanes::small_head;
 use snapshot_judge::large::large_head;
+use snapshot_judge::large::sorted;
 ghost use mathlib.Core.Path.{_≡_};
 ghost use Prim.Native.Nat.{_/_};
 ghost use lib.ListN.{length};
@@ -30,12 +31,13 @@ fn lay(t: &mut [u64], s: &[u8], p: Plan)
     ensures { λ _. ⌜ now (t .exit) ≡ tableOf countRow (length (now (t .entry))) (countsOf (now (s .entry)) (p .end) (p .large)) ⌝ }
 {
     let rows = p.rows;
+    let ascending = sorted(s, p.end, p.large);
     let mut lanes = open_all(s, 17);
     let mut lo: u64 = 0;
     let mut k = 0;
     while k < rows {
         let a = small_head(lanes);
-        let b = large_head(s, p.end, p.large, lo);
+        let b = large_head(s, p.end, p.large, ascending, lo);
         let f = first(a, b);
         let x = f.idx;
         t[k * 2] = x;

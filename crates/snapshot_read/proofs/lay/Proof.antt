@@ -29,22 +29,25 @@ use Rattle.snapshot_judge.proofs.lanes.small_head.Reads as small-head-reads
 use Rattle.snapshot_judge.proofs.large.large_head.Reads as large-head-reads
 
 abbrev Inv-loop : tie.InvT-loop
-Inv-loop t₀ s p rows lanes₀ lo₀ k₀ t lanes lo k =
+Inv-loop t₀ s p rows ascending lanes₀ lo₀ k₀ t lanes lo k =
     (k ≤ rows) × (length t ≡ length t₀) × AllOpen s lanes × (all (ascendingFrom lo) (listsOf s lanes) ≡ true)
     × (t ≡ tableOf countRow (length t₀) (take k (countsOf s (p .end) (p .large))))
     × (drop k (countsOf s (p .end) (p .large)) ≡ setAll (fromIdx lo (bigOf s (p .end) (p .large))) (tierOf (listsOf s lanes)))
 
 abbrev μ-loop : tie.MeasureT-loop
-μ-loop t₀ s p rows lanes₀ lo₀ k₀ t lanes lo k = rows - k
+μ-loop t₀ s p rows ascending lanes₀ lo₀ k₀ t lanes lo k = rows - k
 
 -- src/lib.rt:33:9
+sorted-requires : tie.Need-sorted-requires Inv-loop μ-loop
+sorted-requires c κs = c .before .before .pre .1 .readable .inside
+
 open-all-requires : tie.Need-open-all-requires Inv-loop μ-loop
-open-all-requires c κs = c .before .before .pre .1 .readable .sets
+open-all-requires c κs = c .before .before .before .pre .1 .readable .sets
 
 -- src/lib.rt:36:5
 loop-holds : tie.Need-loop-holds Inv-loop μ-loop
 loop-holds c =
-    let s = c .before .before .before in
+    let s = c .before .before .before .before in
     let a = s .args in
     let o = c .open-all .ensures in (
       omega arith,
@@ -61,7 +64,7 @@ small-head-requires c κs = tt
 
 -- src/lib.rt:38:13
 large-head-requires : tie.Need-large-head-requires Inv-loop μ-loop
-large-head-requires c κs = c .before .before .before .before .before .before .pre .1 .readable .inside
+large-head-requires c κs = (c .before .before .before .before .before .before .before .pre .1 .readable .inside, c .before .before .before .before .sorted .ensures)
 
 -- src/lib.rt:39:13
 first-requires : tie.Need-first-requires Inv-loop μ-loop
@@ -69,31 +72,31 @@ first-requires c κs = tt
 
 -- src/lib.rt:41:11
 mul-t : tie.Need-mul-t Inv-loop μ-loop
-mul-t c = omega (arith, c .before .before .before .before .before .before .before .before .pre .1 .fits, c .before .before .before .before .loop .inv .1)
+mul-t c = omega (arith, c .before .before .before .before .before .before .before .before .before .pre .1 .fits, c .before .before .before .before .loop .inv .1)
 
 -- src/lib.rt:41:9
 mul-t-2 : tie.Need-mul-t-2 Inv-loop μ-loop
-mul-t-2 c = omega (arith, c .before .before .before .before .before .before .before .before .pre .1 .fits, c .before .before .before .before .loop .inv .1)
+mul-t-2 c = omega (arith, c .before .before .before .before .before .before .before .before .before .pre .1 .fits, c .before .before .before .before .loop .inv .1)
 
 -- src/lib.rt:41:9
 slice-write-t : tie.Need-slice-write-t Inv-loop μ-loop
-slice-write-t c = omega (arith, c .before .before .before .before .before .before .before .before .pre .1 .fits, c .before .before .before .before .loop .inv .1)
+slice-write-t c = omega (arith, c .before .before .before .before .before .before .before .before .before .pre .1 .fits, c .before .before .before .before .loop .inv .1)
 
 -- src/lib.rt:42:11
 mul-t-3 : tie.Need-mul-t-3 Inv-loop μ-loop
-mul-t-3 c = omega (arith, c .before .before .before .before .before .before .before .before .pre .1 .fits, c .before .before .before .before .loop .inv .1)
+mul-t-3 c = omega (arith, c .before .before .before .before .before .before .before .before .before .pre .1 .fits, c .before .before .before .before .loop .inv .1)
 
 -- src/lib.rt:42:11
 add-t : tie.Need-add-t Inv-loop μ-loop
-add-t c = omega (arith, c .before .before .before .before .before .before .before .before .pre .1 .fits, c .before .before .before .before .loop .inv .1)
+add-t c = omega (arith, c .before .before .before .before .before .before .before .before .before .pre .1 .fits, c .before .before .before .before .loop .inv .1)
 
 -- src/lib.rt:42:9
 mul-t-4 : tie.Need-mul-t-4 Inv-loop μ-loop
-mul-t-4 c = omega (arith, c .before .before .before .before .before .before .before .before .pre .1 .fits, c .before .before .before .before .loop .inv .1)
+mul-t-4 c = omega (arith, c .before .before .before .before .before .before .before .before .before .pre .1 .fits, c .before .before .before .before .loop .inv .1)
 
 -- src/lib.rt:42:9
 slice-write-t-2 : tie.Need-slice-write-t-2 Inv-loop μ-loop
-slice-write-t-2 c = let l = c .before .before .before .before .loop in rw (length-set (l .t) (l .k * 2) (c .first .result .idx)) (omega (arith, c .before .before .before .before .before .before .before .before .pre .1 .fits, c .before .before .before .before .loop .inv .1))
+slice-write-t-2 c = let l = c .before .before .before .before .loop in rw (length-set (l .t) (l .k * 2) (c .first .result .idx)) (omega (arith, c .before .before .before .before .before .before .before .before .before .pre .1 .fits, c .before .before .before .before .loop .inv .1))
 
 -- src/lib.rt:43:13
 advance-requires : tie.Need-advance-requires Inv-loop μ-loop
@@ -102,7 +105,7 @@ advance-requires c κs = c .before .before .before .before .loop .inv .2
 -- src/lib.rt:45:14
 add-lo : tie.Need-add-lo Inv-loop μ-loop
 add-lo c =
-    let s = c .before .before .before .before .before .before .before .before .before in
+    let s = c .before .before .before .before .before .before .before .before .before .before in
     let a = s .args in
     let l = c .before .before .before .before .before .loop in
     let sh = c .before .before .before .small-head in
@@ -129,7 +132,7 @@ loop-less c = omega arith
 -- src/lib.rt:36:5
 loop-again : tie.Need-loop-again Inv-loop μ-loop
 loop-again c =
-    let s = c .before .before .before .before .before .before .before .before .before in
+    let s = c .before .before .before .before .before .before .before .before .before .before in
     let a = s .args in
     let l = c .before .before .before .before .before .loop in
     let sh = c .before .before .before .small-head in
@@ -160,7 +163,7 @@ same-length c = c .before .loop .inv .1
 -- src/lib.rt:28:1
 returns : tie.Need-returns Inv-loop μ-loop
 returns c =
-    let s = c .before .before .before .before .before in
+    let s = c .before .before .before .before .before .before in
     let a = s .args in
     let l = c .before .loop in
     l .inv .4 ∙ lay-end (length (a .t .now)) (l .k) (countsOf (a .s .now) (a .p .end) (a .p .large)) (omega (arith, s .pre .1 .rows))
@@ -171,6 +174,7 @@ lay-spec =
     (tie.spec
     Inv-loop
     μ-loop
+    sorted-requires
     open-all-requires
     loop-holds
     small-head-requires

@@ -27,19 +27,22 @@ use Rattle.snapshot_judge.proofs.lanes.small_head.Reads as small-head-r
 use Rattle.snapshot_judge.proofs.large.large_head.Reads as large-head-reads
 
 abbrev Inv-loop : tie.InvT-loop
-Inv-loop s at end n next lanes₀ lo₀ rows₀ lanes lo rows = AllOpen s lanes × (all (ascendingFrom lo) (listsOf s lanes) ≡ true) × (rows ≤ lo) × (judgedFrom rows next (fromIdx lo (bigOf s end n)) (tierOf (listsOf s lanes)) ≡ judgedFrom 0 next (bigOf s end n) (smallOf s at))
+Inv-loop s at end n next ascending lanes₀ lo₀ rows₀ lanes lo rows = AllOpen s lanes × (all (ascendingFrom lo) (listsOf s lanes) ≡ true) × (rows ≤ lo) × (judgedFrom rows next (fromIdx lo (bigOf s end n)) (tierOf (listsOf s lanes)) ≡ judgedFrom 0 next (bigOf s end n) (smallOf s at))
 
 abbrev μ-loop : tie.MeasureT-loop
-μ-loop s at end n next lanes₀ lo₀ rows₀ lanes lo rows = length (setAll (fromIdx lo (bigOf s end n)) (tierOf (listsOf s lanes)))
+μ-loop s at end n next ascending lanes₀ lo₀ rows₀ lanes lo rows = length (setAll (fromIdx lo (bigOf s end n)) (tierOf (listsOf s lanes)))
 
 -- src/judge.rt:52:9
+sorted-requires : tie.Need-sorted-requires Inv-loop μ-loop
+sorted-requires c κs = c .before .pre .inside
+
 open-all-requires : tie.Need-open-all-requires Inv-loop μ-loop
-open-all-requires c κs = c .before .pre .sets
+open-all-requires c κs = c .before .before .pre .sets
 
 -- src/judge.rt:55:5
 loop-holds : tie.Need-loop-holds Inv-loop μ-loop
 loop-holds c =
-    let a = c .before .before .args in
+    let a = c .before .before .before .args in
     let o = c .open-all .ensures in
     (o .opened, start-above (a .s .now) (a .at) (c .open-all .result) o, omega arith, start-judged (a .s .now) (a .at) (a .next) (bigOf (a .s .now) (a .end) (a .n)) (c .open-all .result) o)
 
@@ -49,7 +52,7 @@ small-head-requires c κs = tt
 
 -- src/judge.rt:57:13
 large-head-requires : tie.Need-large-head-requires Inv-loop μ-loop
-large-head-requires c κs = c .before .before .before .before .pre .inside
+large-head-requires c κs = (c .before .before .before .before .before .pre .inside, c .before .before .before .sorted .ensures)
 
 -- src/judge.rt:58:13
 first-requires : tie.Need-first-requires Inv-loop μ-loop
@@ -58,7 +61,7 @@ first-requires c κs = tt
 -- src/judge.rt:60:13
 returns : tie.Need-returns Inv-loop μ-loop
 returns c =
-    let s = c .before .before .before .before .before .before .before .before in
+    let s = c .before .before .before .before .before .before .before .before .before in
     let a = s .args in
     let l = c .before .before .before .before .before .loop in
     let sh = c .before .before .before .before .small-head in
@@ -77,7 +80,7 @@ meets-requires c κs = tt
 -- src/judge.rt:63:13
 returns-2 : tie.Need-returns-2 Inv-loop μ-loop
 returns-2 c =
-    let s = c .before .before .before .before .before .before .before .before .before .before in
+    let s = c .before .before .before .before .before .before .before .before .before .before .before in
     let a = s .args in
     let l = c .before .before .before .before .before .before .before .loop in
     let sh = c .before .before .before .before .before .before .small-head in
@@ -92,7 +95,7 @@ returns-2 c =
 -- src/judge.rt:70:13
 returns-3 : tie.Need-returns-3 Inv-loop μ-loop
 returns-3 c =
-    let s = c .before .before .before .before .before .before .before .before .before .before .before in
+    let s = c .before .before .before .before .before .before .before .before .before .before .before .before in
     let a = s .args in
     let l = c .before .before .before .before .before .before .before .before .loop in
     let sh = c .before .before .before .before .before .before .before .small-head in
@@ -111,7 +114,7 @@ advance-requires c κs = c .before .before .before .before .before .before .befo
 -- src/judge.rt:77:9
 add-rows : tie.Need-add-rows Inv-loop μ-loop
 add-rows c =
-    let s = c .before .before .before .before .before .before .before .before .before .before .before .before in
+    let s = c .before .before .before .before .before .before .before .before .before .before .before .before .before in
     let a = s .args in
     let l = c .before .before .before .before .before .before .before .before .before .loop in
     let sh = c .before .before .before .before .before .before .before .before .small-head in
@@ -130,7 +133,7 @@ add-lo c = omega arith
 -- src/judge.rt:55:5
 loop-less : tie.Need-loop-less Inv-loop μ-loop
 loop-less c =
-    let s = c .before .before .before .before .before .before .before .before .before .before .before .before in
+    let s = c .before .before .before .before .before .before .before .before .before .before .before .before .before in
     let a = s .args in
     let l = c .before .before .before .before .before .before .before .before .before .loop in
     let sh = c .before .before .before .before .before .before .before .before .small-head in
@@ -145,7 +148,7 @@ loop-less c =
 -- src/judge.rt:55:5
 loop-again : tie.Need-loop-again Inv-loop μ-loop
 loop-again c =
-    let s = c .before .before .before .before .before .before .before .before .before .before .before .before in
+    let s = c .before .before .before .before .before .before .before .before .before .before .before .before .before in
     let a = s .args in
     let l = c .before .before .before .before .before .before .before .before .before .loop in
     let sh = c .before .before .before .before .before .before .before .before .small-head in
@@ -169,6 +172,7 @@ judge-spec =
     (tie.spec
     Inv-loop
     μ-loop
+    sorted-requires
     open-all-requires
     loop-holds
     small-head-requires
