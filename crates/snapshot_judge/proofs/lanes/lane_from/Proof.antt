@@ -14,7 +14,7 @@ use Rattle.snapshot_judge.proofs.lanes.lane_from.Statement.{statement}
 use Rattle.snapshot_judge.proofs.lanes.lane_from.Tie as tie
 use Rattle.snapshot_judge.proofs.lanes.lane_from.Reads as reads
 use Rattle.snapshot_judge.proofs.lanes.lane_from.Lts as lts
-use Rattle.roaring.proofs.cursor.next.Reads as next-reads
+use Rattle.roaring_cursor.proofs.next.Reads as next-reads
 
 -- src/lanes.rt:39:21
 sub-next : tie.Need-sub-next

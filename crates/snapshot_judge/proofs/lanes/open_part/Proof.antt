@@ -14,7 +14,7 @@ use Rattle.snapshot_judge.proofs.lanes.open_part.Statement.{statement}
 use Rattle.snapshot_judge.proofs.lanes.open_part.Tie as tie
 use Rattle.snapshot_judge.proofs.lanes.open_part.Reads as reads
 use Rattle.snapshot_judge.proofs.lanes.open_part.Lts as lts
-use Rattle.roaring.proofs.cursor.start.Reads as start-reads
+use Rattle.roaring_cursor.proofs.start.Reads as start-reads
 use Rattle.snapshot_judge.proofs.lanes.lane_from.Reads as lane-from-reads
 
 -- src/lanes.rt:63:19

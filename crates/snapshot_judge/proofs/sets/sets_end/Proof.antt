@@ -15,7 +15,7 @@ use Rattle.snapshot_judge.proofs.sets.sets_end.Tie as tie
 use Rattle.snapshot_judge.proofs.sets.sets_end.Reads as reads
 use Rattle.snapshot_judge.proofs.sets.sets_end.Lts as lts
 use Rattle.byte_numbers.proofs.read_le64.Reads as read-le64-reads
-use Rattle.roaring.proofs.bitmap.is_bitmap64.Reads as is-bitmap64-reads
+use Rattle.roaring_check.proofs.is_bitmap64.Reads as is-bitmap64-reads
 
 abbrev Inv-loop : tie.InvT-loop
 Inv-loop s at p₀ k₀ p k = (k ≤ 8) × (p ≤ length s) × (restAfter (8 - k) (drop p s) ≡ restAfter 8 (drop at s))
