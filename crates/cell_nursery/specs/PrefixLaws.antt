@@ -3,16 +3,15 @@
 -- Assumes nothing.
 use mathlib.Core.Path.{_≡_, refl, sym, ap, _∙_}
 use mathlib.Core.Bool.{Bool, true, false, not}
-use mathlib.Core.List.{List, [], _∷_, _++_, map, append-assoc, append-nil}
+use mathlib.Core.List.{List, [], _∷_, _++_, map, append-nil}
 use Prim.Native.Nat.{ℕ, zero, suc, _+_, _-_, _*_, _≤_, _<_}
 use native.Mathlib.Omega.{arith}
 use native.Mathlib.Decide.{decLe}
-use lib.ListN.{length, take, drop, getD, length-append, length-drop, length-map, take-append-drop, replicate-append-replicate, List·getD-map}
+use lib.ListN.{length, take, drop, getD, length-drop, replicate-append-replicate, List·getD-map}
 use lib.Seq.{getD-drop, getD-take, length-take-le}
-use lib.Dec.{leb, ltb, eqb}
-use borrow.Author.Tests.{lt-ltb, le-ltb, le-leb, lt-leb, eq-eqb, ne-eqb}
+use lib.Dec.{eqb}
+use borrow.Author.Tests.{lt-ltb, le-ltb, eq-eqb, ne-eqb}
 use Rattle.base.specs.Logic.{pick, keep, elem, flat, overlay, zeros, ascending, sortedFrom}
-use Rattle.base.specs.Maybe.{maybe}
 use Rattle.base.specs.Output.{fitting}
 use Rattle.base.specs.Laws.{flat-append}
 use Rattle.base.specs.declared.Answer.the-variants.{Taken, Refused}
@@ -24,7 +23,7 @@ use Rattle.rows.specs.KeyLaws.{length-keys, place-le}
 use Rattle.cell_nursery.specs.declared.Nursery.{Nursery}
 use Rattle.cell_nursery.specs.Entries.{Entry, Waiting}
 use Rattle.cell_nursery.specs.Drain.{due, named, promoted, drained, promotedBytes, drainBytes}
-use Rattle.cell_nursery.specs.Layout.{HashWords, hashOf, hashAt, WaitingRow, waitingRow, entryOf, waitingRowOf, waiterOf, recordOf, waitingTable, entriesOf, waitingOf, stateOf, holds}
+use Rattle.cell_nursery.specs.Layout.{hashOf, hashAt, WaitingRow, waitingRow, entryOf, waitingRowOf, waiterOf, recordOf, waitingTable, entriesOf, waitingOf, stateOf, holds}
 use Rattle.cell_nursery.specs.Calls.{onState, drainedAs, drainedOut, drainCall}
 use Rattle.cell_nursery.specs.HashLaws.{U64, hash-first}
 use Rattle.cell_nursery.specs.EntryLaws.{entryAt-hit, entryAt-miss}
