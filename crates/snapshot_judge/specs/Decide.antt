@@ -23,9 +23,9 @@ use Rattle.snapshot_judge.specs.declared.decide.Plan.{Plan}
 use Rattle.snapshot_judge.specs.declared.decide.Verdict.{Verdict}
 use Rattle.snapshot_judge.specs.declared.decide.Verdict.the-variants.{Fits, Refused}
 use Rattle.snapshot_judge.specs.declared.judge.Judged.{Judged}
-use Rattle.snapshot_judge.specs.Payloads.{setsOf, layAll, restAfter, isTaken, sets-read}
-use Rattle.snapshot_judge.specs.Heads.{rawOf, setAll, clashes}
-use Rattle.snapshot_judge.specs.LargeLaws.{low, large-read}
+use Rattle.snapshot_tiers.specs.Payloads.{setsOf, layAll, restAfter, isTaken, sets-read}
+use Rattle.snapshot_tiers.specs.Heads.{rawOf, setAll, clashes}
+use Rattle.snapshot_tiers.specs.LargeLaws.{low, large-read}
 use Rattle.snapshot_judge.specs.Judge.{Readable, smallOf, bigOf, far, judgedFrom}
 
 -- the numbers that follow the version

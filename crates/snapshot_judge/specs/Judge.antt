@@ -11,16 +11,16 @@ use lib.Dec.{leb, ltb, eqb}
 use borrow.Author.Tests.{le-leb, lt-leb, le-ltb, lt-ltb}
 use Rattle.base.specs.Logic.{pick, all, any, keep, fold, ascendingFrom}
 use Rattle.counters.specs.Counts.{Entry}
-use Rattle.snapshot_judge.specs.declared.Head.{Head}
+use Rattle.snapshot_tiers.specs.declared.Head.{Head}
 use Rattle.snapshot_judge.specs.declared.judge.Judged.{Judged}
-use Rattle.snapshot_judge.specs.declared.lanes.Lane.{Lane}
-use Rattle.snapshot_judge.specs.Payloads.{setsOf, restAfter, isTaken, sets-ascend}
-use Rattle.snapshot_judge.specs.TierLaws.{fromIdx, tierOf, all-past}
-use Rattle.snapshot_judge.specs.Heads.{noHead, rawOf, setAll, lowerFrom, clashes, firstOf, meet}
-use Rattle.snapshot_judge.specs.JoinLaws.{Small, Large, Front, restOf, front-of}
-use Rattle.snapshot_judge.specs.LargeLaws.{low, scanned}
-use Rattle.snapshot_judge.specs.Lanes.{listsOf, smallHead, Opened, Advanced}
-use Rattle.snapshot_judge.specs.LaneLaws.{small-of}
+use Rattle.snapshot_lanes.specs.declared.lanes.Lane.{Lane}
+use Rattle.snapshot_tiers.specs.Payloads.{setsOf, restAfter, isTaken, sets-ascend}
+use Rattle.snapshot_tiers.specs.TierLaws.{fromIdx, tierOf, all-past}
+use Rattle.snapshot_tiers.specs.Heads.{noHead, rawOf, setAll, lowerFrom, clashes, firstOf, meet}
+use Rattle.snapshot_tiers.specs.JoinLaws.{Small, Large, Front, restOf, front-of}
+use Rattle.snapshot_tiers.specs.LargeLaws.{low, scanned}
+use Rattle.snapshot_lanes.specs.Lanes.{listsOf, smallHead, Opened, Advanced}
+use Rattle.snapshot_lanes.specs.LaneLaws.{small-of}
 
 -- the payloads are there, and n large counts, none of which belongs to the small tier
 pub record Readable (s : List ℕ) (at end n : ℕ) : Type 0 where

@@ -1,10 +1,10 @@
 // Whether bytes are a snapshot that a table has room for: the first refusal that is met, or what there is to lay into the table.
 use crate::judge::judge;
-use crate::large::any_low;
-use crate::sets::End;
-use crate::sets::sets_end;
 use base::Refusal;
 use byte_numbers::read_le64;
+use snapshot_lanes::sets::End;
+use snapshot_lanes::sets::sets_end;
+use snapshot_tiers::large::any_low;
 ghost use mathlib.Core.Path.{_≡_};
 ghost use lib.ListN.{length};
 ghost use Rattle.snapshot_judge.specs.Decide.{Reached, Decided};

@@ -1,12 +1,12 @@
 // Both tiers as one, an index at a time: whether an index is in both or isn't below the next one, and how many counts there are.
-use crate::Head;
-use crate::lanes::advance;
-use crate::lanes::open_all;
-use crate::lanes::small_head;
-use crate::large::large_head;
-use crate::large::sorted;
+use snapshot_lanes::lanes::advance;
+use snapshot_lanes::lanes::open_all;
+use snapshot_lanes::lanes::small_head;
+use snapshot_tiers::Head;
+use snapshot_tiers::large::large_head;
+use snapshot_tiers::large::sorted;
 ghost use mathlib.Core.Path.{_≡_};
-ghost use Rattle.snapshot_judge.specs.Heads.{firstOf, meet};
+ghost use Rattle.snapshot_tiers.specs.Heads.{firstOf, meet};
 ghost use Rattle.snapshot_judge.specs.Judge.{Readable, bigOf, smallOf, judgedFrom};
 
 // What is judged: an index is in both tiers or isn't below the next one; else how many counts there are.
