@@ -1,29 +1,28 @@
 -- What is decided of a snapshot before anything is written, and each way there.
 -- Assumes nothing.
 use mathlib.Core.Path.{_≡_, refl, sym, ap, _∙_}
-use mathlib.Core.Bool.{Bool, true, false, not, _&&_, _||_, true≢false}
-use mathlib.Core.Option.{Option, none, some}
+use mathlib.Core.Bool.{Bool, true, false, not, _||_, true≢false}
 use mathlib.Core.List.{List, [], _∷_}
-use Prim.Native.Nat.{ℕ, zero, suc, _+_, _-_, _*_, _/_, _%_, _≤_, _<_}
+use Prim.Native.Nat.{ℕ, _+_, _-_, _/_, _%_, _≤_, _<_}
 use native.Mathlib.Omega.{arith}
 use native.Mathlib.Decide.{decLe}
 use lib.ListN.{length, take, drop, getD, length-drop}
-use lib.Dec.{leb, ltb, eqb}
-use borrow.Author.Tests.{le-leb, lt-leb, le-ltb, lt-ltb, eq-eqb, ne-eqb}
-use Rattle.base.specs.Logic.{pick, any, fold}
+use lib.Dec.{eqb}
+use borrow.Author.Tests.{le-ltb, lt-ltb, eq-eqb, ne-eqb}
+use Rattle.base.specs.Logic.{pick, any}
 use Rattle.base.specs.Bytes.{unle, readLe}
 use Rattle.base.specs.ListLaws.{or-false}
 use Rattle.base.specs.Answers.{Outcome, refused, taken, _>>=_, _>>_, refuseIf, orRefuse}
 use Rattle.base.specs.declared.Refusal.{Refusal}
 use Rattle.base.specs.declared.Refusal.the-variants.{TableFull, Version, TornSnapshot, BadLarge, TierClash}
 use Rattle.slices.specs.NumberLaws.{readLe-at, readLe-short}
-use Rattle.counters.specs.Counts.{Entry, State, storedAt, setCount, freshMaintenance}
+use Rattle.counters.specs.Counts.{Entry, State, freshMaintenance}
 use Rattle.snapshot.specs.Read.{readSets, readLarge, joined, readSnapshot}
 use Rattle.snapshot_judge.specs.declared.decide.Plan.{Plan}
 use Rattle.snapshot_judge.specs.declared.decide.Verdict.{Verdict}
 use Rattle.snapshot_judge.specs.declared.decide.Verdict.the-variants.{Fits, Refused}
 use Rattle.snapshot_judge.specs.declared.judge.Judged.{Judged}
-use Rattle.snapshot_tiers.specs.Payloads.{setsOf, layAll, restAfter, isTaken, sets-read}
+use Rattle.snapshot_tiers.specs.Payloads.{restAfter, isTaken, sets-read}
 use Rattle.snapshot_tiers.specs.Heads.{rawOf, setAll, clashes}
 use Rattle.snapshot_tiers.specs.LargeLaws.{low, large-read}
 use Rattle.snapshot_judge.specs.Judge.{Readable, smallOf, bigOf, far, judgedFrom}

@@ -3,15 +3,13 @@
 use mathlib.Core.Path.{_≡_, refl, sym, ap, _∙_}
 use mathlib.Core.Bool.{Bool, true, false, true≢false}
 use mathlib.Core.Option.{Option, none, some}
-use mathlib.Core.List.{List, [], _∷_}
+use mathlib.Core.List.{List, _∷_}
 use Prim.Native.Nat.{ℕ, zero, suc, _+_, _-_, _≤_, _<_}
 use native.Mathlib.Omega.{arith}
 use native.Mathlib.Decide.{decLe}
-use lib.ListN.{length, take, drop, length-drop}
+use lib.ListN.{length, take, drop}
 use lib.Seq.{drop-drop}
-use lib.Dec.{leb}
 use Rattle.base.specs.Maybe as maybe
-use Rattle.base.specs.Bytes.{unle, cut, readLe}
 use Rattle.base.specs.Answers.{Outcome, refused, taken, _>>=_, orRefuse}
 use Rattle.base.specs.declared.Refusal.{Refusal}
 use Rattle.base.specs.declared.Refusal.the-variants.{TornSnapshot, BadBitmap}
@@ -21,7 +19,7 @@ use Rattle.roaring.specs.Scan.{isSome}
 use Rattle.roaring_cursor.specs.Cursor.{membersOf}
 use Rattle.snapshot_lanes.specs.declared.sets.End.{End}
 use Rattle.snapshot_lanes.specs.declared.sets.End.the-variants.{At, Torn, Bad}
-use Rattle.snapshot_tiers.specs.Payloads.{sizeOf, payloadOf, afterOf, setsOf, restAfter, isTaken}
+use Rattle.snapshot_tiers.specs.Payloads.{sizeOf, payloadOf, setsOf, restAfter, isTaken}
 use Rattle.snapshot_lanes.specs.Lanes.{AtFirst}
 
 -- what is left at an end

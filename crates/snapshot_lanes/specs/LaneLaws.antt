@@ -5,22 +5,19 @@ use mathlib.Core.Bool.{Bool, true, false, _&&_, true≢false}
 use mathlib.Core.List.{List, [], _∷_, _++_, map, append-nil}
 use Prim.Native.Nat.{ℕ, zero, suc, _+_, _-_, _*_, _%_, _^_, _≤_, _<_}
 use native.Mathlib.Omega.{arith}
-use native.Mathlib.Numerals.{add-one}
 use lib.ListN.{length, take, drop, getD, set, replicate, length-drop, length-set}
-use lib.Seq.{drop-cons, take-suc, set-split, take-at, drop-at, drop-drop, drop-length, take-length, getD-set-same, getD-set-other}
-use lib.Dec.{leb, ltb, eqb}
+use lib.Seq.{drop-cons, drop-drop, drop-length, take-length, getD-set-same, getD-set-other}
+use lib.Dec.{eqb}
 use lib.Pow.{pow-mono}
-use borrow.Author.Tests.{le-leb, lt-leb, leb-true, eqb-true, eqb-false, eq-eqb, ne-eqb}
+use borrow.Author.Tests.{le-leb, lt-leb, eqb-true, eqb-false}
 use Rattle.base.specs.Logic.{pick, all, ascendingFrom}
-use Rattle.counters.specs.Counts.{Entry}
 use Rattle.roaring_cursor.specs.Cursor.{Good, membersFrom, membersOf, Started, Stepped}
-use Rattle.roaring_cursor.specs.declared.Step.{Step}
 use Rattle.roaring_cursor.specs.declared.Step.the-variants.{Member, Done}
 use Rattle.roaring_cursor.specs.declared.Cursor.{Cursor}
 use Rattle.snapshot_tiers.specs.declared.Head.{Head}
 use Rattle.snapshot_lanes.specs.declared.lanes.Lane.{Lane}
 use Rattle.snapshot_tiers.specs.Payloads.{sizeOf, payloadOf, setsOf}
-use Rattle.snapshot_tiers.specs.TierLaws.{past, bitAt, codeFrom, tierOf}
+use Rattle.snapshot_tiers.specs.TierLaws.{past, bitAt, codeFrom}
 use Rattle.snapshot_tiers.specs.Heads.{noHead, lowerBy, lowest}
 use Rattle.snapshot_tiers.specs.JoinLaws.{Lowest, Small, lowest-of, code-most}
 use Rattle.snapshot_lanes.specs.Lanes.{partOf, laneList, Open, LaneOf, AllOpen, listsOf, lowestLane, codeLanes, smallHead}

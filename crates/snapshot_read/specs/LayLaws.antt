@@ -1,7 +1,7 @@
 -- Counts laid into a table one behind the other, and the ways of the call.
 -- Assumes nothing.
 use mathlib.Core.Path.{_≡_, refl, sym, ap, _∙_}
-use mathlib.Core.Bool.{Bool, true, false, _||_, true≢false}
+use mathlib.Core.Bool.{Bool, true, false}
 use mathlib.Core.List.{List, [], _∷_, _++_, append-nil}
 use Prim.Native.Nat.{ℕ, zero, suc, _+_, _-_, _*_, _/_, _≤_, _<_}
 use native.Mathlib.Omega.{arith}
@@ -12,20 +12,18 @@ use lib.Dec.{leb}
 use borrow.Author.Tests.{leb-false}
 use Rattle.base.specs.Logic.{any, flat, zeros, overlay}
 use Rattle.base.specs.ListLaws.{or-false}
-use Rattle.base.specs.Answers.{Outcome, refused, taken}
 use Rattle.base.specs.declared.Refusal.{Refusal}
 use Rattle.base.specs.declared.Answer.the-variants.{Taken, Refused}
 use Rattle.slices.specs.Laws.{paste-start, paste-right, paste-two}
-use Rattle.rows.specs.Table.{rowsOf, tableOf}
+use Rattle.rows.specs.Table.{tableOf}
 use Rattle.rows.specs.TableLaws.{rowsOf-table, length-table, laid-table, inserted}
 use Rattle.counters.specs.declared.Applied.{Applied}
 use Rattle.counters.specs.declared.Counters.{Counters}
-use Rattle.counters.specs.Counts.{Entry, State, freshMaintenance, fresh}
+use Rattle.counters.specs.Counts.{Entry, freshMaintenance, fresh}
 use Rattle.counters.specs.Layout as layout
-use Rattle.counters.specs.Layout.{countRow, roomOf, recordOf}
+use Rattle.counters.specs.Layout.{countRow, recordOf}
 use Rattle.counters.specs.Calls.{Changed, laid, laidOut}
 use Rattle.counters.specs.Maintenance.{standard}
-use Rattle.snapshot.specs.Read.{readSnapshot}
 use Rattle.snapshot.specs.Calls.{deserializeCall}
 use Rattle.snapshot_tiers.specs.declared.Head.{Head}
 use Rattle.snapshot_judge.specs.declared.decide.Plan.{Plan}

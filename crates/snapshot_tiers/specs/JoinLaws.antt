@@ -1,17 +1,17 @@
 -- The two tiers as one, an index at a time.
 -- Assumes nothing.
-use mathlib.Core.Path.{_≡_, refl, sym, ap, _∙_}
+use mathlib.Core.Path.{_≡_, refl, sym, _∙_}
 use mathlib.Core.Bool.{Bool, true, false, _&&_, _||_, true≢false}
-use mathlib.Core.List.{List, [], _∷_, _++_, map}
+use mathlib.Core.List.{List, [], _∷_, map}
 use Prim.Native.Nat.{ℕ, zero, suc, _+_, _^_, _≤_, _<_}
 use native.Mathlib.Omega.{arith}
 use native.Mathlib.Nat.{one-le-pow, two-pow-succ}
 use lib.ListN.{length}
 use lib.Dec.{leb, ltb, eqb}
-use borrow.Author.Tests.{le-leb, lt-leb, le-ltb, lt-ltb, leb-true, leb-false, ltb-true, ltb-false, eqb-true, eqb-false, eq-eqb, ne-eqb}
-use Rattle.base.specs.Logic.{pick, all, any, keep, fold, ascendingFrom}
+use borrow.Author.Tests.{le-leb, lt-ltb, leb-true, leb-false, ltb-true, ltb-false, eqb-true, eqb-false, eq-eqb, ne-eqb}
+use Rattle.base.specs.Logic.{pick, all, any, fold, ascendingFrom}
 use Rattle.base.specs.Laws.{and-left, and-right, and-both, ascending-head, ascending-tail, ascending-lower}
-use Rattle.base.specs.ListLaws.{all-weaker, keep-whole, keep-empty, keep-append, keep-swap, keep-narrow, all-kept, all-keep}
+use Rattle.base.specs.ListLaws.{all-weaker, keep-whole, keep-narrow, all-kept}
 use Rattle.counters.specs.Counts.{Entry, storedAt, setCount}
 use Rattle.snapshot_tiers.specs.declared.Head.{Head}
 use Rattle.snapshot_tiers.specs.Payloads.{layAll}

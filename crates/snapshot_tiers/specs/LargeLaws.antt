@@ -2,25 +2,24 @@
 -- Assumes nothing.
 use mathlib.Core.Path.{_≡_, refl, sym, ap, _∙_}
 use mathlib.Core.Bool.{Bool, true, false, _&&_, _||_, true≢false}
-use mathlib.Core.List.{List, [], _∷_, _++_, map}
+use mathlib.Core.List.{List, [], _∷_}
 use Prim.Native.Nat.{ℕ, zero, suc, _+_, _-_, _*_, _≤_, _<_}
 use native.Mathlib.Omega.{arith}
-use native.Mathlib.Decide.{decLt, decLe}
-use lib.ListN.{length, take, drop}
+use lib.ListN.{take, drop}
 use lib.Seq.{drop-drop}
-use lib.Dec.{leb, ltb, eqb}
-use borrow.Author.Tests.{le-leb, lt-leb, le-ltb, lt-ltb, leb-true, leb-false, ltb-true, ltb-false, eqb-true, eqb-false, eq-eqb, ne-eqb}
+use lib.Dec.{leb, ltb}
+use borrow.Author.Tests.{le-leb, lt-leb, le-ltb, lt-ltb, leb-true, ltb-true, ltb-false}
 use Rattle.base.specs.Logic.{pick, all, any, keep, fold}
-use Rattle.base.specs.Laws.{and-left, and-right, and-both}
-use Rattle.base.specs.ListLaws.{or-false, all-weaker, keep-whole, keep-empty, keep-append, keep-swap, keep-narrow, all-kept, all-keep}
+use Rattle.base.specs.Laws.{and-both}
+use Rattle.base.specs.ListLaws.{or-false, all-weaker, keep-empty, keep-append, keep-swap, keep-narrow, all-kept}
 use Rattle.base.specs.Bytes.{unle}
-use Rattle.base.specs.Answers.{Outcome, refused, taken, _>>_, refuseIf}
+use Rattle.base.specs.Answers.{Outcome, taken, _>>_, refuseIf}
 use Rattle.base.specs.declared.Refusal.the-variants.{BadLarge}
 use Rattle.rows.specs.Keys.{putRows}
 use Rattle.counters.specs.Counts.{Entry, rowOf, setCount}
 use Rattle.snapshot.specs.Read.{readLarge}
 use Rattle.snapshot_tiers.specs.declared.Head.{Head}
-use Rattle.snapshot_tiers.specs.TierLaws.{entry, fromIdx, Above, set-front, set-hit, set-behind}
+use Rattle.snapshot_tiers.specs.TierLaws.{entry, fromIdx, Above, set-behind}
 use Rattle.snapshot_tiers.specs.Heads.{noHead, rawOf, setAll, lowerFrom}
 use Rattle.snapshot_tiers.specs.JoinLaws.{Large}
 

@@ -1,13 +1,12 @@
 -- The eight payloads of a snapshot as the code goes through them: whether they are there, their members, and what is left.
 -- Assumes nothing.
-use mathlib.Core.Path.{_≡_, refl, sym, ap, _∙_}
+use mathlib.Core.Path.{_≡_, refl}
 use mathlib.Core.Bool.{Bool, true, false}
 use mathlib.Core.Option.{Option, none, some}
 use mathlib.Core.List.{List, [], _∷_}
-use Prim.Native.Nat.{ℕ, zero, suc, _+_, _≤_, _<_}
+use Prim.Native.Nat.{ℕ, zero, suc}
 use native.Mathlib.Omega.{arith}
-use lib.ListN.{length, take, drop, length-drop}
-use lib.Seq.{drop-drop}
+use lib.ListN.{length, take, drop}
 use lib.Dec.{leb}
 use Rattle.base.specs.Logic.{all, ascending, ascendingFrom}
 use Rattle.base.specs.Maybe as maybe
@@ -16,9 +15,7 @@ use Rattle.base.specs.Laws.{and-both}
 use Rattle.base.specs.Answers.{Outcome, refused, taken, _>>=_, orRefuse}
 use Rattle.base.specs.declared.Refusal.{Refusal}
 use Rattle.base.specs.declared.Refusal.the-variants.{TornSnapshot, BadBitmap}
-use Rattle.slices.specs.NumberLaws.{cut-at, cut-short, readLe-at, readLe-short}
 use Rattle.roaring.specs.Read.{parse64}
-use Rattle.roaring.specs.Scan.{isSome}
 use Rattle.roaring_cursor.specs.Cursor.{membersOf}
 use Rattle.roaring.specs.MemberLaws.{members-ascend}
 use Rattle.counters.specs.Counts.{Entry}

@@ -1,7 +1,7 @@
 -- Large counts by ascending index, as a written snapshot has them: the first from an index on is found by halves.
 -- Assumes nothing.
 use mathlib.Core.Path.{_≡_, refl, sym, ap, _∙_}
-use mathlib.Core.Bool.{Bool, true, false}
+use mathlib.Core.Bool.{true}
 use mathlib.Core.List.{List, [], _∷_, map}
 use Prim.Native.Nat.{ℕ, zero, suc, _+_, _-_, _*_, _≤_, _<_}
 use native.Mathlib.Omega.{arith}
@@ -15,7 +15,6 @@ use Rattle.rows.specs.Keys.{place}
 use Rattle.rows.specs.KeyLaws.{place-lt, place-ge}
 use Rattle.counters.specs.Counts.{Entry}
 use Rattle.snapshot_tiers.specs.declared.Head.{Head}
-use Rattle.snapshot_tiers.specs.TierLaws.{entry}
 use Rattle.snapshot_tiers.specs.Heads.{noHead, rawOf, lowerFrom}
 use Rattle.snapshot_tiers.specs.LargeLaws.{raw-next, raw-end, from-unasked, from-kept, from-first}
 

@@ -1,16 +1,16 @@
 -- Sets laid over each other, an index at a time: the lowest index takes a bit from each set that it leads, and is gone from these.
 -- Assumes nothing.
-use mathlib.Core.Path.{_≡_, refl, sym, ap, _∙_}
-use mathlib.Core.Bool.{Bool, true, false, _&&_}
-use mathlib.Core.List.{List, [], _∷_, _++_, map}
+use mathlib.Core.Path.{_≡_, refl, _∙_}
+use mathlib.Core.Bool.{Bool, true, false}
+use mathlib.Core.List.{List, [], _∷_, map}
 use Prim.Native.Nat.{ℕ, zero, suc, _+_, _^_, _≤_, _<_, max}
 use native.Mathlib.Omega.{arith}
 use native.Mathlib.Nat.{one-le-pow}
 use lib.Dec.{leb, ltb, eqb}
 use borrow.Author.Tests.{le-leb, lt-leb, le-ltb, lt-ltb, leb-true, eqb-true, eqb-false, eq-eqb, ne-eqb}
-use Rattle.base.specs.Logic.{pick, all, any, keep, fold, ascendingFrom}
+use Rattle.base.specs.Logic.{pick, all, keep, fold, ascendingFrom}
 use Rattle.base.specs.Laws.{and-left, and-right, and-both, ascending-head, ascending-tail, ascending-lower}
-use Rattle.base.specs.ListLaws.{all-weaker, keep-whole, keep-empty, keep-append, keep-swap, keep-narrow, all-kept}
+use Rattle.base.specs.ListLaws.{keep-whole, keep-empty}
 use Rattle.rows.specs.Keys.{putRows}
 use Rattle.rows.specs.OrderLaws.{putRows-all}
 use Rattle.counters.specs.Counts.{Entry, storedAt, countAt, rowOf, setCount}
