@@ -3,6 +3,7 @@ use snapshot_lanes::lanes::advance;
 use snapshot_lanes::lanes::open_all;
 use snapshot_lanes::lanes::small_head;
 use snapshot_tiers::Head;
+use snapshot_tiers::large::large_after;
 use snapshot_tiers::large::large_head;
 use snapshot_tiers::large::sorted;
 ghost use mathlib.Core.Path.{_≡_};
@@ -44,19 +45,19 @@ fn meets(a: Head, b: Head) -> bool
     a.idx == b.idx
 }
 
-// Both tiers, gone through by index: a pass over the sets, and a search in the large counts for each index. Large counts that
-// don't come by ascending index are taken too, and there each index costs a pass over them.
+// Both tiers, gone through by index: a pass over the sets, and a search for each large count. Large counts that don't come by
+// ascending index are taken too, and there each of them costs a pass over them.
 pub fn judge(s: &[u8], at: usize, end: usize, n: usize, next: u64) -> Judged
     requires { ⌜ Readable (now s) at end n ⌝ }
     ensures { λ r. ⌜ r ≡ judgedFrom 0 next (bigOf (now (s .entry)) end n) (smallOf (now (s .entry)) at) ⌝ }
 {
     let ascending = sorted(s, end, n);
     let mut lanes = open_all(s, at);
+    let mut b = large_head(s, end, n, ascending, 0);
     let mut lo: u64 = 0;
     let mut rows: usize = 0;
     loop {
         let a = small_head(lanes);
-        let b = large_head(s, end, n, ascending, lo);
         let f = first(a, b);
         if !f.found {
             return Judged { clash: false, rows };
@@ -78,5 +79,7 @@ pub fn judge(s: &[u8], at: usize, end: usize, n: usize, next: u64) -> Judged
         lanes = moved;
         rows += 1;
         lo = x + 1;
+        let later = large_after(s, end, n, ascending, b, lo);
+        b = later;
     }
 }

@@ -12,6 +12,7 @@ use snapshot_judge::judge::first;
 use snapshot_lanes::lanes::advance;
 use snapshot_lanes::lanes::open_all;
 use snapshot_lanes::lanes::small_head;
+use snapshot_tiers::large::large_after;
 use snapshot_tiers::large::large_head;
 use snapshot_tiers::large::sorted;
 ghost use mathlib.Core.Path.{_≡_};
@@ -33,11 +34,11 @@ fn lay(t: &mut [u64], s: &[u8], p: Plan)
     let rows = p.rows;
     let ascending = sorted(s, p.end, p.large);
     let mut lanes = open_all(s, 17);
+    let mut b = large_head(s, p.end, p.large, ascending, 0);
     let mut lo: u64 = 0;
     let mut k = 0;
     while k < rows {
         let a = small_head(lanes);
-        let b = large_head(s, p.end, p.large, ascending, lo);
         let f = first(a, b);
         let x = f.idx;
         t[k * 2] = x;
@@ -46,6 +47,8 @@ fn lay(t: &mut [u64], s: &[u8], p: Plan)
         lanes = moved;
         lo = x + 1;
         k += 1;
+        let later = large_after(s, p.end, p.large, ascending, b, lo);
+        b = later;
     }
 }
 

@@ -10,6 +10,7 @@ ghost use lib.ListN.{length, drop};
 ghost use Rattle.base.specs.Logic.{any, fold, ascendingFrom};
 ghost use Rattle.rows.specs.Keys.{place};
 ghost use Rattle.snapshot_tiers.specs.TierLaws.{entry};
+ghost use Rattle.snapshot_tiers.specs.StayLaws.{HeadTo};
 ghost use Rattle.snapshot_tiers.specs.Heads.{noHead, rawOf, lowerFrom};
 ghost use Rattle.snapshot_tiers.specs.LargeLaws.{low};
 ghost use Rattle.snapshot_tiers.specs.SortedLaws.{idxsOf};
@@ -119,4 +120,19 @@ pub fn large_head(s: &[u8], at: usize, n: usize, ascending: bool, lo: u64) -> He
         idx,
         count,
     }
+}
+
+// The first large count from lo on, where b is the one from a lower place on: searched anew only where it is passed.
+pub fn large_after(s: &[u8], at: usize, n: usize, ascending: bool, b: Head, lo: u64) -> Head
+    requires { ⌜ (at + 16 * n ≤ length (now s)) × (ascending ≡ ascendingFrom 0 (idxsOf n (drop at (now s)))) ⌝ }
+    requires { ⌜ HeadTo lo (rawOf n (drop at (now s))) b ⌝ }
+    ensures { λ r. ⌜ r ≡ fold (lowerFrom lo) (rawOf n (drop at (now (s .entry)))) noHead ⌝ }
+{
+    if b.found {
+        if b.idx < lo {
+            return large_head(s, at, n, ascending, lo);
+        }
+        return b;
+    }
+    b
 }
