@@ -1,13 +1,13 @@
 -- The waiting rows that a test keeps, moved together one row at a time: `Keeping` is what holds between two rows.
 -- Assumes nothing.
-use mathlib.Core.Path.{_≡_, refl, sym, ap, _∙_}
+use mathlib.Core.Path.{_≡_, refl, sym, _∙_}
 use mathlib.Core.Bool.{Bool, true, false}
-use mathlib.Core.List.{List, [], _∷_, _++_, append-nil, append-assoc}
+use mathlib.Core.List.{List, [], _∷_, _++_, append-nil}
 use Prim.Native.Nat.{ℕ, zero, suc, _+_, _*_, _-_, _≤_, _<_}
 use native.Mathlib.Numerals.{add-one}
 use native.Mathlib.Decide.{ℕ-discrete}
 use native.Mathlib.Omega.{arith}
-use lib.ListN.{length, take, drop, getD, length-append, length-drop, length-replicate, take-append-drop, replicate-append-replicate}
+use lib.ListN.{length, take, drop, length-append, length-drop, length-replicate, replicate-append-replicate}
 use lib.Seq.{paste, take-suc, take-all, take-paste, length-paste, drop-drop, getD-drop}
 use lib.Dec.{eqb, ltb}
 use borrow.Author.Tests.{ne-eqb, eq-eqb, le-ltb, ltb-false}
@@ -16,7 +16,7 @@ use Rattle.base.specs.Laws.{flat-append}
 use Rattle.base.specs.ListLaws.{keep-append}
 use Rattle.slices.specs.Laws.{paste-right, drop-paste-after}
 use Rattle.rows.specs.declared.Wide.{Wide}
-use Rattle.rows.specs.Table.{rowsOf, tableOf, Laid}
+use Rattle.rows.specs.Table.{rowsOf, tableOf}
 use Rattle.rows.specs.TableLaws.{length-rowsOf, take-rowsOf, row-at}
 use Rattle.rows.specs.Keys.{firstFour}
 use Rattle.rows.specs.Wide.{keyOf}

@@ -1,16 +1,15 @@
 -- A turn of each loop over a delta's inserts that looks at their hashes.
 -- Assumes nothing.
-use mathlib.Core.Path.{_≡_, refl, sym, ap, _∙_}
-use mathlib.Core.Bool.{Bool, true, false, _||_}
-use mathlib.Core.List.{List, _∷_, map}
+use mathlib.Core.Path.{_≡_, sym}
+use mathlib.Core.Bool.{false, _||_}
+use mathlib.Core.List.{List, map}
 use Prim.Native.Nat.{ℕ, _+_, _-_, _≤_, _<_}
 use native.Mathlib.Omega.{arith}
 use native.Mathlib.Decide.{decLt}
-use lib.ListN.{length, drop, getD}
+use lib.ListN.{length, drop}
 use lib.Dec.{ltb, eqb}
 use borrow.Author.Tests.{lt-ltb, le-ltb}
 use Rattle.base.specs.Logic.{any, elem, repeated}
-use Rattle.rows.specs.KeyLaws.{length-keys}
 use Rattle.rows.specs.RowLaws.{elem-hit}
 use Rattle.cell_nursery.specs.Entries.{Entry}
 use Rattle.cell_nursery.specs.SearchLaws.{indexOf, index-found, index-none}

@@ -1,16 +1,16 @@
 -- Inserts that are read from bytes have their fields in bounds.
 -- Assumes nothing.
-use mathlib.Core.Path.{_≡_, refl, sym, ap, _∙_}
+use mathlib.Core.Path.{_≡_, refl, ap, _∙_}
 use mathlib.Core.Bool.{Bool, true, false}
-use mathlib.Core.List.{List, [], _∷_, _++_, reverse, reverse-append}
-use Prim.Native.Nat.{ℕ, zero, suc, _+_, _*_, _^_, _≤_, _<_}
+use mathlib.Core.List.{List, [], _∷_, reverse, reverse-append}
+use Prim.Native.Nat.{ℕ, zero, suc, _+_, _^_, _≤_, _<_}
 use native.Mathlib.Omega.{arith}
-use lib.ListN.{length, take, drop, getD, length-take, length-reverse, length-drop}
+use lib.ListN.{length, take, drop, getD, length-take, length-reverse}
 use lib.Seq.{getD-take, getD-drop, length-take-le, drop-drop}
 use lib.Dec.{ltb}
 use borrow.Author.Tests.{ltb-false}
 use Rattle.base.specs.Logic.{all, any}
-use Rattle.base.specs.Bytes.{number, unle, unbe}
+use Rattle.base.specs.Bytes.{unle, unbe}
 use Rattle.base.specs.Laws.{and-left, and-right, and-both}
 use Rattle.base.specs.ListLaws.{all-append}
 use Rattle.base.specs.SumLaws.{all-one, or-left, or-right}
@@ -19,10 +19,9 @@ use Rattle.slices.specs.Laws.{length-part}
 use Rattle.slices.specs.NumberLaws.{all-below}
 use Rattle.rows.specs.declared.Wide.{Wide}
 use Rattle.rows.specs.Wide.{keyOf}
-use Rattle.cell_nursery.specs.Entries.{Entry}
 use Rattle.cell_nursery.specs.ItemLaws.{fitsItem, fits-item}
-use Rattle.delta_items.specs.Walk.{hashIn, idxIn, bornIn, cellLen, cellIn, insertIn, insertLen, insertsIn, insertsFit, longCell}
-use Rattle.delta_items.specs.WalkLaws.{fit-head, fit-tail, cell-length}
+use Rattle.delta_items.specs.Walk.{hashIn, idxIn, bornIn, cellLen, insertIn, insertLen, insertsIn, insertsFit, longCell}
+use Rattle.delta_items.specs.WalkLaws.{fit-head, fit-tail}
 use Rattle.nursery_steps.specs.Steps.{newEntry}
 
 all-reverse : (p : ℕ → Bool) (xs : List ℕ) → all p xs ≡ true → all p (reverse xs) ≡ true

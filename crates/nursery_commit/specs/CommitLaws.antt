@@ -1,22 +1,21 @@
 -- Each way out of a delta's call.
 -- Assumes nothing.
-use mathlib.Core.Path.{_≡_, refl, sym, ap, _∙_}
-use mathlib.Core.Bool.{Bool, true, false, not, _||_}
+use mathlib.Core.Path.{_≡_, sym, ap, _∙_}
+use mathlib.Core.Bool.{Bool, true, false, _||_}
 use mathlib.Core.List.{List, map}
 use Prim.Native.Nat.{ℕ, _+_, _-_, _*_, _/_, _≤_, _<_, min, max}
 use native.Mathlib.Omega.{arith}
 use lib.ListN.{length}
 use lib.Dec.{ltb}
-use Rattle.base.specs.Logic.{any, elem, repeated, max32}
-use Rattle.base.specs.SumLaws.{or-left, or-right}
+use Rattle.base.specs.Logic.{any, elem, fold, repeated, max32}
+use Rattle.base.specs.SumLaws.{or-left}
 use Rattle.base.specs.declared.Refusal.{Refusal}
 use Rattle.base.specs.declared.Refusal.the-variants.{Present, NurseryFull, TooLong, Broken}
-use Rattle.base.specs.declared.Answer.the-variants.{Taken, Refused}
+use Rattle.base.specs.declared.Answer.the-variants.{Refused}
 use Rattle.rows.specs.Keys.{firstFour, keys}
 use Rattle.cell_nursery.specs.declared.Nursery.{Nursery}
 use Rattle.cell_nursery.specs.declared.Committed.{Committed}
-use Rattle.cell_nursery.specs.Entries.{Entry, cellBytes}
-use Rattle.cell_nursery.specs.Items.{Delta, deltaOf}
+use Rattle.cell_nursery.specs.Entries.{cellBytes, insert, remove}
 use Rattle.cell_nursery.specs.Delta.{tooLong, present, used, full, stateAfter, applyDelta}
 use Rattle.cell_nursery.specs.Layout.{roomOf, stateOf, holds}
 use Rattle.cell_nursery.specs.Calls.{Changed, changed, laid, laidOut, onState, lengthWidth, deltaCall}
@@ -62,8 +61,8 @@ module _ (r : Nursery) (es ws cs : List ℕ) (wide : Bool) (n m : ℕ) (items : 
           commit-full u = rw (h, delta-whole (lengthWidth wide) n m items f, t, p, u)
 
           pub commit-taken : full (roomOf es ws cs) (stateOf r es ws cs) (deltaIn (lengthWidth wide) n m items) ≡ false → (q : Nursery) (es' ws' cs' : List ℕ)
-              → left q es' ws' cs' ≡ laid es ws cs (stateAfter (deltaIn (lengthWidth wide) n m items) (stateOf r es ws cs)) → left q es' ws' cs' ≡ deltaCall r es ws cs wide n m items
-          unfolding deltaCall onState laidOut applyDelta
+              → left q es' ws' cs' ≡ laid es ws cs (fold remove (deltaIn (lengthWidth wide) n m items .removes) (fold insert (deltaIn (lengthWidth wide) n m items .inserts) (stateOf r es ws cs))) → left q es' ws' cs' ≡ deltaCall r es ws cs wide n m items
+          unfolding deltaCall onState laidOut applyDelta stateAfter
           commit-taken u q es' ws' cs' e = e ∙ sym (rw (h, delta-whole (lengthWidth wide) n m items f, t, p, u))
 
 -- ---- the tests as the code makes them

@@ -1,7 +1,7 @@
 -- Inserts and removes in turn: what holds of the tables between two of them.
 -- Assumes nothing.
 use mathlib.Core.Path.{_≡_, refl, sym, ap, _∙_}
-use mathlib.Core.Bool.{Bool, true, false, _||_}
+use mathlib.Core.Bool.{Bool, true, false}
 use mathlib.Core.List.{List, [], _∷_, _++_, map, map-append}
 use Prim.Native.Nat.{ℕ, suc, _+_, _/_, _≤_, min, max}
 use native.Mathlib.Omega.{arith}
@@ -204,6 +204,14 @@ module _ (es₀ ws₀ cs₀ : List ℕ) (goal : State) where
       q es' ws' cs' u v eq
 
 -- ---- a whole delta: inserts, then removes
+
+-- the tables hold a state that takes the delta
+pub record Applicable (r : Nursery) (es ws cs : List ℕ) (d : Delta) : Type 0 where
+  pub held : holds r es ws cs ≡ true
+  pub fits : all fitsItem (d .inserts) ≡ true
+  pub fresh : present (stateOf r es ws cs) d ≡ false
+  pub room : full (roomOf es ws cs) (stateOf r es ws cs) d ≡ false
+
 module _ (r : Nursery) (es ws cs : List ℕ) (u : U64 es) (v : U64 ws) (o : holds r es ws cs ≡ true) (d : Delta) (fits : all fitsItem (d .inserts) ≡ true)
     (room : full (roomOf es ws cs) (stateOf r es ws cs) d ≡ false) where
   -- the inserts of the delta alone
@@ -245,8 +253,8 @@ module _ (r : Nursery) (es ws cs : List ℕ) (u : U64 es) (v : U64 ws) (o : hold
     held-mid = held-after es ws cs (fold insert (d .inserts) (stateOf r es ws cs)) well-mid rows-mid bytes-mid q es₁ ws₁ cs₁ e
 
     pub delta-done : (t : Nursery) (es₂ ws₂ cs₂ : List ℕ) → left t es₂ ws₂ cs₂ ≡ laid es₁ ws₁ cs₁ (fold remove (d .removes) (stateOf q es₁ ws₁ cs₁))
-        → left t es₂ ws₂ cs₂ ≡ laid es ws cs (stateAfter d (stateOf r es ws cs))
-    unfolding laid stateAfter
+        → left t es₂ ws₂ cs₂ ≡ laid es ws cs (fold remove (d .removes) (fold insert (d .inserts) (stateOf r es ws cs)))
+    unfolding laid
     delta-done t es₂ ws₂ cs₂ f =
         let s : State = fold insert (d .inserts) (stateOf r es ws cs) in
         f

@@ -17,9 +17,9 @@ ghost use Rattle.cell_nursery.specs.Entries.{insert, remove};
 ghost use Rattle.cell_nursery.specs.Layout.{stateOf, holds};
 ghost use Rattle.cell_nursery.specs.LayoutLaws.{EntriesHeld};
 ghost use Rattle.cell_nursery.specs.Calls.{changed, laid, lengthWidth, deltaCall};
-ghost use Rattle.delta_items.specs.Walk.{insertIn, insertLen, insertsIn, insertsFit, hashesIn};
+ghost use Rattle.delta_items.specs.Walk.{insertIn, insertLen, insertsIn, insertsLen, insertsFit, hashesIn, itemsFit, deltaIn};
 ghost use Rattle.nursery_steps.specs.Steps.{left, Insertable};
-ghost use Rattle.nursery_commit.specs.RunLaws.{Ready};
+ghost use Rattle.nursery_commit.specs.RunLaws.{Ready, Applicable};
 ghost use Rattle.nursery_commit.specs.CommitLaws.{refusedWith};
 
 // Whether an inserted hash is in the nursery, or comes twice.
@@ -108,6 +108,26 @@ fn apply_removes(
     q
 }
 
+// The inserts of a delta, then its removes, which begin at `at`.
+fn apply_items(
+    r: Nursery,
+    es: &mut [u64],
+    ws: &mut [u64],
+    cs: &mut [u8],
+    wide: bool,
+    inserts: u64,
+    removes: u64,
+    items: &[u8],
+    at: usize,
+) -> Nursery
+    requires { ⌜ (itemsFit (lengthWidth wide) inserts removes (now items) ≡ true) × (at ≡ insertsLen (lengthWidth wide) inserts (now items)) ⌝ }
+    requires { ⌜ Applicable r (now es) (now ws) (now cs) (deltaIn (lengthWidth wide) inserts removes (now items)) ⌝ }
+    ensures { λ q. ⌜ left q (now (es .exit)) (now (ws .exit)) (now (cs .exit)) ≡ laid (now (es .entry)) (now (ws .entry)) (now (cs .entry)) (fold remove (deltaIn (lengthWidth wide) inserts removes (now (items .entry)) .removes) (fold insert (deltaIn (lengthWidth wide) inserts removes (now (items .entry)) .inserts) (stateOf r (now (es .entry)) (now (ws .entry)) (now (cs .entry))))) ⌝ }
+{
+    let q = apply_inserts(r, es, ws, cs, wide, inserts, items);
+    apply_removes(q, es, ws, cs, removes, items, at)
+}
+
 // A refusal: all stays as it was.
 fn refused(why: Refusal, r: Nursery) -> Committed
     ensures { λ c. ⌜ c ≡ refusedWith why r ⌝ }
@@ -145,8 +165,7 @@ pub fn apply_commit_held(
     if delta_checks::is_full(r, es.len(), ws.len(), cs.len(), inserts, bytes) {
         return refused(Refusal::NurseryFull, r);
     }
-    let q = apply_inserts(r, es, ws, cs, wide, inserts, items);
-    let nursery = apply_removes(q, es, ws, cs, removes, items, at);
+    let nursery = apply_items(r, es, ws, cs, wide, inserts, removes, items, at);
     Committed {
         answer: Answer::Taken,
         nursery,

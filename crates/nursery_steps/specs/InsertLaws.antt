@@ -1,29 +1,28 @@
 -- An insert in the lent tables: what its parts require holds, and their work is the insert's.
 -- Assumes nothing.
 use mathlib.Core.Path.{_≡_, refl, sym, ap, _∙_}
-use mathlib.Core.Bool.{true, false}
+use mathlib.Core.Bool.{false}
 use mathlib.Core.List.{List, _∷_, _++_, map}
-use Prim.Native.Nat.{ℕ, suc, _+_, _*_, _-_, _/_, _≤_, _<_, min, max}
+use Prim.Native.Nat.{ℕ, suc, _+_, _*_, _-_, _≤_, _<_}
 use native.Mathlib.Numerals.{add-one}
 use native.Mathlib.Omega.{arith}
 use native.Mathlib.Decide.{decLt}
 use lib.ListN.{length, take, drop, getD, take-append-drop}
 use lib.Dec.{ltb}
 use borrow.Author.Tests.{lt-ltb, le-ltb}
-use Rattle.base.specs.Logic.{pick, elem, sortedFrom}
-use Rattle.base.specs.Laws.{ascending-sorted}
+use Rattle.base.specs.Logic.{pick, elem}
 use Rattle.slices.specs.Laws.{length-part}
 use Rattle.rows.specs.declared.Wide.{Wide}
-use Rattle.rows.specs.Table.{rowsOf, tableOf, Laid}
+use Rattle.rows.specs.Table.{rowsOf, tableOf}
 use Rattle.rows.specs.TableLaws.{rows-fit}
 use Rattle.rows.specs.Keys.{firstWord, firstFour, keys, place}
 use Rattle.rows.specs.KeyLaws.{place-le, length-keys}
 use Rattle.rows.specs.Wide.{keyOf}
 use Rattle.rows.specs.WideLaws.{Words}
 use Rattle.cell_nursery.specs.declared.Nursery.{Nursery}
-use Rattle.cell_nursery.specs.Entries.{Entry, Waiting, cellBytes, insert}
+use Rattle.cell_nursery.specs.Entries.{Entry, cellBytes, insert}
 use Rattle.cell_nursery.specs.Delta.{used}
-use Rattle.cell_nursery.specs.Layout.{HashWords, hashWords, EntryRow, entryRow, entryRowOf, waitingRowOf, recordOf, entriesTable, waitingTable, cellsTable, roomOf, entriesOf, waitingOf, stateOf}
+use Rattle.cell_nursery.specs.Layout.{HashWords, hashWords, entryRow, entryRowOf, waitingRowOf, recordOf, entriesTable, waitingTable, cellsTable, roomOf, entriesOf, stateOf}
 use Rattle.cell_nursery.specs.Calls.{laid}
 use Rattle.cell_nursery.specs.HashLaws.{words-hash, U64}
 use Rattle.cell_nursery.specs.LayoutLaws.{Held, held, number-entries, number-waiting, entries-keys, bytes-same}

@@ -1,23 +1,22 @@
 -- A remove in the lent tables: what its parts require holds, and their work is the remove's.
 -- Assumes nothing.
-use mathlib.Core.Path.{_≡_, refl, sym, ap, _∙_}
-use mathlib.Core.Bool.{Bool, true, false, not, _&&_}
+use mathlib.Core.Path.{_≡_, sym, ap, _∙_}
+use mathlib.Core.Bool.{true, false, not, _&&_}
 use mathlib.Core.List.{List, _∷_, [], _++_, map}
 use Prim.Native.Nat.{ℕ, suc, _+_, _*_, _-_, _≤_, _<_}
 use native.Mathlib.Omega.{arith}
-use native.Mathlib.Decide.{decLt}
 use lib.ListN.{length, take, drop, getD, length-append, length-drop, length-map, take-append-drop}
 use lib.Seq.{take-suc, take-add, length-take-le}
 use lib.Dec.{ltb, eqb}
 use borrow.Author.Tests.{lt-ltb, ltb-true, eqb-true, eq-eqb}
-use Rattle.base.specs.Logic.{keep, elem, zeros, sumOf}
+use Rattle.base.specs.Logic.{keep, zeros, sumOf}
 use Rattle.base.specs.Laws.{and-left, and-right}
 use Rattle.rows.specs.Table.{rowsOf, tableOf}
 use Rattle.rows.specs.Keys.{firstFour, keys, place}
 use Rattle.rows.specs.KeyLaws.{key-at}
 use Rattle.cell_nursery.specs.declared.Nursery.{Nursery}
 use Rattle.cell_nursery.specs.Entries.{Entry, cellBytes, remove}
-use Rattle.cell_nursery.specs.Layout.{EntryRow, entryRow, entryOf, WaitingRow, waitingRow, waitingRowOf, entryRows, cellsOf, recordOf, entriesTable, waitingTable, cellsTable, entriesOf, waitingOf, stateOf, holds}
+use Rattle.cell_nursery.specs.Layout.{entryRow, entryOf, waitingRow, waitingRowOf, entryRows, cellsOf, recordOf, entriesTable, waitingTable, cellsTable, entriesOf, waitingOf, stateOf, holds}
 use Rattle.cell_nursery.specs.Calls.{laid}
 use Rattle.cell_nursery.specs.HashLaws.{U64}
 use Rattle.cell_nursery.specs.LayoutLaws.{Held, held, number-entries, entries-keys, bytes-same}

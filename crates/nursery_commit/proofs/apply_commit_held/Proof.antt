@@ -10,9 +10,8 @@ use Rattle.cell_nursery.specs.HashLaws.{U64}
 use Rattle.cell_nursery.specs.ItemLaws.{fitsItem}
 use Rattle.cell_nursery.specs.LayoutLaws.{Held, held}
 use Rattle.delta_items.specs.Walk.{insertsLen, itemsFit, deltaIn}
-use Rattle.delta_items.specs.WalkLaws.{removes-at, removes-past, fit-inserts, fit-removes}
+use Rattle.delta_items.specs.WalkLaws.{removes-at, removes-past, fit-inserts}
 use Rattle.nursery_commit.specs.BoundLaws.{U8, inserts-fit}
-use Rattle.nursery_commit.specs.RunLaws.{ready-start, held-mid, delta-done}
 use Rattle.nursery_commit.specs.CommitLaws.{commit-past, commit-long, commit-present, commit-full, commit-taken, present-same, full-same, short-cells, heads-fit}
 use mathlib.Core.Path.{_≡_, sym, ap, _∙_}
 use mathlib.Core.Bool.{true, false}
@@ -148,31 +147,13 @@ returns-4 c =
     ap (λ (x : Committed). changed x (a .es .now) (a .ws .now) (a .cs .now)) (c .refused4 .ensures)
     ∙ commit-full (a .r) (a .es .now) (a .ws .now) (a .cs .now) (a .wide) (a .inserts) (a .removes) (a .items .now) (s .pre) (fit f .0) (short g) (fresh g) (sym (fills g) ∙ c .before .if3 .taken)
 
-apply-inserts-requires : tie.Need-apply-inserts-requires
-unfolding deltaIn
-apply-inserts-requires c κs =
+apply-items-requires : tie.Need-apply-items-requires
+apply-items-requires c κs =
     let g = c .before .before .before .before in
     let f = g .before .before .before .before .before .before .before .before in
-    let s = f .before .before .before .before .before .before .before in
-    let a = s .args in
-    let w = lengthWidth (a .wide) in (
-      fit-inserts w (a .inserts) (a .removes) (a .items .now) (fit f .0),
-      (
-        s .pre,
-        ready-start (a .r) (a .es .now) (a .ws .now) (a .cs .now) (u64-es f) (u64-ws f) (s .pre) (deltaIn w (a .inserts) (a .removes) (a .items .now)) (fitting g) (sym (fills g) ∙ c .before .before .before .if3 .left) (fresh g),
-      ),
-    )
-
-apply-removes-requires : tie.Need-apply-removes-requires
-unfolding deltaIn
-apply-removes-requires c κs =
-    let g = c .before .before .before .before .before .before .before .before .before .before .before .before .before .before in
-    let f = g .before .before .before .before .before .before .before .before in
-    let s = f .before .before .before .before .before .before .before in
-    let a = s .args in
-    let w = lengthWidth (a .wide) in (
-      omega (arith, fit f .1, fit-removes w (a .inserts) (a .removes) (a .items .now) (fit f .0)),
-      held-mid (a .r) (a .es .now) (a .ws .now) (a .cs .now) (u64-es f) (u64-ws f) (s .pre) (deltaIn w (a .inserts) (a .removes) (a .items .now)) (fitting g) (sym (fills g) ∙ c .before .before .before .before .before .before .before .before .before .before .before .before .before .if3 .left) _ _ _ _ (c .before .before .before .before .before .before .before .before .before .apply-inserts .ensures),
+    let s = f .before .before .before .before .before .before .before in (
+      (fit f .0, fit f .1),
+      record { held = s .pre; fits = fitting g; fresh = fresh g; room = sym (fills g) ∙ c .before .before .before .if3 .left },
     )
 
 same-length-3 : tie.Need-same-length-3
@@ -185,16 +166,12 @@ same-length-5 : tie.Need-same-length-5
 same-length-5 c = search needs
 
 returns-5 : tie.Need-returns-5
-unfolding deltaIn
 returns-5 c =
-    let g = c .before .before .before .before .before .before .before .before .before .before .before .before .before .before .before .before .before .before .before .before .before in
+    let g = c .before .before .before .before .before .before .before .before .before .before .before in
     let f = g .before .before .before .before .before .before .before .before in
     let s = f .before .before .before .before .before .before .before in
     let a = s .args in
-    let w = lengthWidth (a .wide) in
-    commit-taken (a .r) (a .es .now) (a .ws .now) (a .cs .now) (a .wide) (a .inserts) (a .removes) (a .items .now) (s .pre) (fit f .0) (short g) (fresh g) (sym (fills g) ∙ c .before .before .before .before .before .before .before .before .before .before .before .before .before .before .before .before .before .before .before .before .if3 .left) _ _ _ _
-    (delta-done (a .r) (a .es .now) (a .ws .now) (a .cs .now) (u64-es f) (u64-ws f) (s .pre) (deltaIn w (a .inserts) (a .removes) (a .items .now)) (fitting g) (sym (fills g) ∙ c .before .before .before .before .before .before .before .before .before .before .before .before .before .before .before .before .before .before .before .before .if3 .left) _ _ _ _ (c .before .before .before .before .before .before .before .before .before .before .before .before .before .before .before .before .apply-inserts .ensures) _ _ _ _
-    (rw (fit f .1) at (c .before .before .before .before .before .before .apply-removes .ensures)))
+    commit-taken (a .r) (a .es .now) (a .ws .now) (a .cs .now) (a .wide) (a .inserts) (a .removes) (a .items .now) (s .pre) (fit f .0) (short g) (fresh g) (sym (fills g) ∙ c .before .before .before .before .before .before .before .before .before .before .if3 .left) _ _ _ _ (c .before .before .before .before .before .before .apply-items .ensures)
 
 pub apply-commit-held-spec : {M : Type 1} → statement M
 apply-commit-held-spec =
@@ -217,8 +194,7 @@ apply-commit-held-spec =
     refused-requires-4
     same-length-2
     returns-4
-    apply-inserts-requires
-    apply-removes-requires
+    apply-items-requires
     same-length-3
     same-length-4
     same-length-5
