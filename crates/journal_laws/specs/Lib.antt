@@ -1,5 +1,6 @@
 -- `WaitLaws`: the waiting rows of a nursery that started empty. `DeltaLaws`: what a delta read from bytes fits.
--- `ReadLaws`: a journal's reading.
+-- `HoldLaws`: an accepted call leaves tables that hold a state. `ReadLaws`: a journal's reading.
 pub mod WaitLaws
 pub mod DeltaLaws
+pub mod HoldLaws
 pub mod ReadLaws

@@ -1,0 +1,102 @@
+-- An accepted call on tables that hold a state leaves tables that hold one, wherever they came from: 20 never follows it.
+-- Assumes nothing.
+use mathlib.Core.Path.{_≡_, refl, sym, ap, _∙_}
+use mathlib.Core.Bool.{Bool, true}
+use mathlib.Core.Option.{Option, none, some}
+use mathlib.Core.List.{List}
+use Prim.Native.Nat.{ℕ, _/_, _≤_, min}
+use native.Mathlib.Omega.{arith}
+use lib.ListN.{length}
+use Rattle.base.specs.Logic.{sumOf}
+use Rattle.base.specs.SumLaws.{length-keep}
+use Rattle.base.specs.Answers.{Outcome, refused, taken, _>>=_, orRefuse}
+use Rattle.base.specs.Output.{fitting}
+use Rattle.base.specs.declared.Answer.the-variants.{Taken, Refused}
+use Rattle.base.specs.declared.Refusal.{Refusal}
+use Rattle.base.specs.declared.Refusal.the-variants.{Broken}
+use Rattle.cell_nursery.specs.declared.Nursery.{Nursery}
+use Rattle.cell_nursery.specs.Entries.{State, empty, cellBytes}
+use Rattle.cell_nursery.specs.Delta.{used, stateAfter, applyDelta}
+use Rattle.cell_nursery.specs.Items.{Delta, deltaOf}
+use Rattle.cell_nursery.specs.Drain.{due, drained, drainBytes}
+use Rattle.cell_nursery.specs.Layout.{recordOf, entriesTable, waitingTable, cellsTable, roomOf, stateOf, holds}
+use Rattle.cell_nursery.specs.HashLaws.{U64}
+use Rattle.cell_nursery.specs.LayoutLaws.{Held, WellFormed, held, holds-laid, number-entries, number-waiting}
+use Rattle.cell_nursery.specs.EntryLaws.{well-empty, well-after, well-drained, InRoom, room-after}
+use Rattle.cell_nursery.specs.Calls.{Changed, DrainedOut, laid, laidOut, onState, newCall, lengthWidth, deltaCall, drainedOut, drainCall}
+use Rattle.journal_laws.specs.DeltaLaws.{Bytes, delta-read, delta-fits, taken-accepted}
+
+not-refused : {r : Refusal} → Taken ≡ Refused r → ⊥
+not-refused e = let z : _≡_ {A = ℕ} 0 1 = cc in omega arith
+
+-- the record and the tables that a call leaves hold a state
+abbrev pub Leaves : Changed → Type 0
+Leaves c = holds (c .result .nursery) (c .entries) (c .waiting) (c .cells) ≡ true
+
+laid-holds : (es ws cs : List ℕ) (s : State) → WellFormed s → InRoom (min (length es / 8) (length ws / 5)) (length cs) s → Leaves (laid es ws cs s)
+unfolding laid
+laid-holds es ws cs s w i = holds-laid s (length es) (length ws) (length cs) w (i .rows-fit) (i .bytes-fit)
+
+pub new-holds : (es ws cs : List ℕ) → Leaves (newCall es ws cs)
+unfolding newCall empty used cellBytes sumOf
+new-holds es ws cs = laid-holds es ws cs empty well-empty (record { rows-fit = omega arith; bytes-fit = omega arith })
+
+module _ (r : Nursery) (es ws cs : List ℕ) (u : U64 es) (v : U64 ws) (h : holds r es ws cs ≡ true) where
+  abbrev s : State
+  s = stateOf r es ws cs
+
+  x : Held r es ws cs
+  x = held r es ws cs u v h
+
+  -- ---- a delta
+  module _ (wide : Bool) (inserts removes : ℕ) (items : List ℕ) (b : Bytes items) where
+    outcome : deltaCall r es ws cs wide inserts removes items
+        ≡ laidOut r es ws cs (orRefuse Broken (deltaOf (lengthWidth wide) inserts removes items) >>= applyDelta (roomOf es ws cs) s)
+    unfolding deltaCall onState
+    outcome = rw h
+
+    pub delta-holds : deltaCall r es ws cs wide inserts removes items .result .answer ≡ Taken → Leaves (deltaCall r es ws cs wide inserts removes items)
+    unfolding laidOut roomOf
+    delta-holds e = rw outcome (go (deltaOf (lengthWidth wide) inserts removes items) refl (rw outcome at e))
+      where
+        after : (d : Delta) (o : Outcome State) → applyDelta (roomOf es ws cs) s d ≡ o → deltaOf (lengthWidth wide) inserts removes items ≡ some d
+            → laidOut r es ws cs o .result .answer ≡ Taken → Leaves (laidOut r es ws cs o)
+        after d (refused q) p i a = absurd (not-refused (sym a))
+        after d (taken t) p i a =
+            let (ok, same) = taken-accepted (roomOf es ws cs) s d t p in
+            let carried = delta-fits 0 inserts removes d (omega arith) (delta-read (lengthWidth wide) inserts removes items d b i) (ok .short) in
+            rw same (laid-holds es ws cs (stateAfter d s) (well-after d s (carried .inserts) (x .well)) (room-after (roomOf es ws cs) d s (ok .fits)))
+
+        go : (o : Option Delta) → deltaOf (lengthWidth wide) inserts removes items ≡ o
+            → laidOut r es ws cs (orRefuse Broken o >>= applyDelta (roomOf es ws cs) s) .result .answer ≡ Taken
+            → Leaves (laidOut r es ws cs (orRefuse Broken o >>= applyDelta (roomOf es ws cs) s))
+        go none i a = absurd (not-refused (sym a))
+        go (some d) i a = after d (applyDelta (roomOf es ws cs) s d) refl i a
+
+  -- ---- draining
+  module _ (delay round : ℕ) (out : List ℕ) where
+    abbrev draining : DrainedOut
+    draining = drainCall delay r es ws cs round out
+
+    drain-outcome : draining ≡ drainedOut r ws out (fitting (length out) (taken (drainBytes delay round s))) (drained delay round s)
+    unfolding drainCall onState
+    drain-outcome = rw h
+
+    still : holds (recordOf (drained delay round s)) es (waitingTable (length ws) (drained delay round s)) cs ≡ true
+    unfolding drained entriesTable cellsTable stateOf used recordOf
+    still =
+        let q = holds-laid (drained delay round s) (length es) (length ws) (length cs) (well-drained delay round s (x .well))
+        (omega (arith, x .room, length-keep (due delay round) (s .waiting), number-entries r es cs, number-waiting r ws)) (omega (arith, x .cells .fits, bytes-same)) in
+        rw (x .same-entries, x .same-cells) at q
+      where
+        bytes-same : cellBytes (s .entries) ≡ r .«cell_bytes»
+        bytes-same = ap (λ (n : Nursery). n .«cell_bytes») (x .same-record)
+
+    pub drain-holds : draining .result .answer ≡ Taken → holds (draining .result .nursery) es (draining .waiting) cs ≡ true
+    unfolding drainedOut
+    drain-holds e = rw drain-outcome (go (fitting (length out) (taken (drainBytes delay round s))) (rw drain-outcome at e))
+      where
+        go : (o : Outcome (List ℕ)) → drainedOut r ws out o (drained delay round s) .result .answer ≡ Taken
+            → holds (drainedOut r ws out o (drained delay round s) .result .nursery) es (drainedOut r ws out o (drained delay round s) .waiting) cs ≡ true
+        go (refused q) a = absurd (not-refused (sym a))
+        go (taken bs) a = still
