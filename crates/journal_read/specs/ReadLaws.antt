@@ -86,9 +86,9 @@ module _ (hash : List ℕ → List ℕ) (s es₀ ws₀ cs₀ : List ℕ) (goal :
         let h = is-held in
         rw (← x .leads, e, ← x .size-es, ← x .size-ws, ← x .size-cs, h .same-record, h .same-entries, h .same-waiting, h .same-cells)
 
-    pub finished : place ≡ length s → readIn (record { nursery = r; applied = applied; place = place; ended = Taken }) es ws cs ≡ endOn es₀ ws₀ cs₀ goal
+    pub finished : place ≡ length s → readIn (record { nursery = r; applied = applied; place = length s; ended = Taken }) es ws cs ≡ endOn es₀ ws₀ cs₀ goal
     unfolding readFrom
-    finished e = closed Taken (rw (e, drop-length s))
+    finished e = rw (← e) (closed Taken (rw (e, drop-length s)))
 
     -- what a record at this place did; the bytes from there on are lent as a part of the journal
     module _ (more : place < length s) (u : U8 s) (q : Step) (es' ws' cs' : List ℕ) (e : stepped q es' ws' cs' ≡ recordCall hash r es ws cs (take (length s - place) (drop place s))) where
@@ -100,6 +100,17 @@ module _ (hash : List ℕ → List ℕ) (s es₀ ws₀ cs₀ : List ℕ) (goal :
 
       on-rest : stepped q es' ws' cs' ≡ recordCall hash r es ws cs rest
       on-rest = e ∙ ap (λ (l : List ℕ). recordCall hash r es ws cs l) (take-all (length s - place) rest (omega (arith, length-drop place s)))
+
+      -- it ends in the journal, also where its delta is refused
+      pub reach : place + q .len ≤ length s
+      unfolding recordCall recordOn
+      reach = go (decode hash rest) refl on-rest
+        where
+          go : (o : Outcome Decoding) → decode hash rest ≡ o → stepped q es' ws' cs' ≡ recordOn r es ws cs o → place + q .len ≤ length s
+          go (refused y) i f = let n : q .len ≡ 0 = ap (λ (z : Stepped). z .result .len) f in omega arith
+          go (taken d) i f =
+              let n : q .len ≡ 40 + d .stats .«payload_bytes» = ap (λ (z : Stepped). z .result .len) f in
+              omega (arith, decode-whole rest hash d (u8-drop place s u) i .inside, length-drop place s)
 
       -- it was refused, or its delta was: nothing changed
       pub stopped : (a : Refusal) → q .answer ≡ Refused a → readIn (record { nursery = q .nursery; applied = applied; place = place; ended = q .answer }) es' ws' cs' ≡ endOn es₀ ws₀ cs₀ goal
