@@ -23,7 +23,7 @@ use Rattle.cell_nursery.specs.HashLaws.{U64}
 use Rattle.cell_nursery.specs.LayoutLaws.{WellFormed, Held, held, length-entriesTable, length-waitingTable, length-cellsTable, stateOf-laid, holds-laid}
 use Rattle.cell_nursery.specs.EntryLaws.{well-empty, well-after, InRoom, room-after}
 use Rattle.format.specs.Record.{Decoding, decode}
-use Rattle.journal.specs.Journal.{End, readFrom, readJournal, readCall, readFrom-taken, readFrom-refused}
+use Rattle.journal.specs.Journal.{readFrom, readJournal, readCall, readFrom-taken, readFrom-refused}
 use Rattle.journal_laws.specs.DeltaLaws.{delta-read, delta-fits, taken-accepted}
 use Rattle.journal_read.specs.declared.Step.{Step}
 use Rattle.journal_read.specs.Reading.{Stepped, stepped, beside, recordOn, recordCall, readIn, endOn, readOn}
@@ -49,8 +49,9 @@ module _ (hash : List ℕ → List ℕ) (m : Room) (s : State) (applied place : 
   delta-ends x d (b ∷ bs) h p q = rw (p, q)
 
 -- ---- between two records
-module _ (hash : List ℕ → List ℕ) (s es₀ ws₀ cs₀ : List ℕ) (goal : End) where
-  -- the tables hold a state, from which the rest of the journal leads to the goal
+-- a journal that is read on from what a record and tables hold
+module _ (hash : List ℕ → List ℕ) (s : List ℕ) (r₀ : Nursery) (es₀ ws₀ cs₀ : List ℕ) where
+  -- the tables hold a state, from which the rest of the journal leads to the same end
   pub record Reading (r : Nursery) (es ws cs : List ℕ) (applied place : ℕ) : Type 0 where
     pub u64-es : U64 es
     pub u64-ws : U64 ws
@@ -60,7 +61,7 @@ module _ (hash : List ℕ → List ℕ) (s es₀ ws₀ cs₀ : List ℕ) (goal :
     pub size-cs : length cs ≡ length cs₀
     pub inside : place ≤ length s
     pub counted : applied ≤ place
-    pub leads : readFrom hash (roomOf es₀ ws₀ cs₀) (stateOf r es ws cs) applied place 0 (drop place s) ≡ goal
+    pub leads : readFrom hash (roomOf es₀ ws₀ cs₀) (stateOf r es ws cs) applied place 0 (drop place s) ≡ readFrom hash (roomOf es₀ ws₀ cs₀) (stateOf r₀ es₀ ws₀ cs₀) 0 0 0 s
 
   -- a record of n bytes was applied
   pub record Applied (r : Nursery) (n : ℕ) (es ws cs : List ℕ) (applied place : ℕ) : Type 0 where
@@ -80,15 +81,15 @@ module _ (hash : List ℕ → List ℕ) (s es₀ ws₀ cs₀ : List ℕ) (goal :
 
     -- the reading ends here
     closed : (a : Answer) → readFrom hash (roomOf es₀ ws₀ cs₀) here applied place 0 (drop place s) ≡ record { state = here; applied = applied; place = place; ended = a }
-        → readIn (record { nursery = r; applied = applied; place = place; ended = a }) es ws cs ≡ endOn es₀ ws₀ cs₀ goal
-    unfolding endOn laid
+        → readIn (record { nursery = r; applied = applied; place = place; ended = a }) es ws cs ≡ readOn hash r₀ es₀ ws₀ cs₀ s
+    unfolding readOn endOn laid
     closed a e =
         let h = is-held in
         rw (← x .leads, e, ← x .size-es, ← x .size-ws, ← x .size-cs, h .same-record, h .same-entries, h .same-waiting, h .same-cells)
 
-    pub finished : place ≡ length s → readIn (record { nursery = r; applied = applied; place = place; ended = Taken }) es ws cs ≡ endOn es₀ ws₀ cs₀ goal
+    pub finished : place ≡ length s → readIn (record { nursery = r; applied = applied; place = length s; ended = Taken }) es ws cs ≡ readOn hash r₀ es₀ ws₀ cs₀ s
     unfolding readFrom
-    finished e = closed Taken (rw (e, drop-length s))
+    finished e = rw (← e) (closed Taken (rw (e, drop-length s)))
 
     -- what a record at this place did; the bytes from there on are lent as a part of the journal
     module _ (more : place < length s) (u : U8 s) (q : Step) (es' ws' cs' : List ℕ) (e : stepped q es' ws' cs' ≡ recordCall hash r es ws cs (take (length s - place) (drop place s))) where
@@ -101,14 +102,25 @@ module _ (hash : List ℕ → List ℕ) (s es₀ ws₀ cs₀ : List ℕ) (goal :
       on-rest : stepped q es' ws' cs' ≡ recordCall hash r es ws cs rest
       on-rest = e ∙ ap (λ (l : List ℕ). recordCall hash r es ws cs l) (take-all (length s - place) rest (omega (arith, length-drop place s)))
 
+      -- it ends in the journal, also where its delta is refused
+      pub reach : place + q .len ≤ length s
+      unfolding recordCall recordOn
+      reach = go (decode hash rest) refl on-rest
+        where
+          go : (o : Outcome Decoding) → decode hash rest ≡ o → stepped q es' ws' cs' ≡ recordOn r es ws cs o → place + q .len ≤ length s
+          go (refused y) i f = let n : q .len ≡ 0 = ap (λ (z : Stepped). z .result .len) f in omega arith
+          go (taken d) i f =
+              let n : q .len ≡ 40 + d .stats .«payload_bytes» = ap (λ (z : Stepped). z .result .len) f in
+              omega (arith, decode-whole rest hash d (u8-drop place s u) i .inside, length-drop place s)
+
       -- it was refused, or its delta was: nothing changed
-      pub stopped : (a : Refusal) → q .answer ≡ Refused a → readIn (record { nursery = q .nursery; applied = applied; place = place; ended = q .answer }) es' ws' cs' ≡ endOn es₀ ws₀ cs₀ goal
+      pub stopped : (a : Refusal) → q .answer ≡ Refused a → readIn (record { nursery = q .nursery; applied = applied; place = place; ended = q .answer }) es' ws' cs' ≡ readOn hash r₀ es₀ ws₀ cs₀ s
       unfolding recordCall recordOn laidOut laid
       stopped a ended = go (decode hash rest) refl on-rest
         where
           as-before : (k : ℕ) (y : Refusal) → stepped q es' ws' cs' ≡ beside k (laidOut r es ws cs (refused y))
               → readFrom hash (roomOf es₀ ws₀ cs₀) here applied place 0 rest ≡ record { state = here; applied = applied; place = place; ended = Refused y }
-              → readIn (record { nursery = q .nursery; applied = applied; place = place; ended = q .answer }) es' ws' cs' ≡ endOn es₀ ws₀ cs₀ goal
+              → readIn (record { nursery = q .nursery; applied = applied; place = place; ended = q .answer }) es' ws' cs' ≡ readOn hash r₀ es₀ ws₀ cs₀ s
           as-before k y f l =
               rw (
                 ap (λ (z : Stepped). z .result .answer) f,
@@ -121,12 +133,12 @@ module _ (hash : List ℕ → List ℕ) (s es₀ ws₀ cs₀ : List ℕ) (goal :
 
           after : (d : Decoding) (o : Outcome State) → decode hash rest ≡ taken d → applyDelta (roomOf es ws cs) here (d .delta) ≡ o
               → stepped q es' ws' cs' ≡ beside (40 + d .stats .«payload_bytes») (laidOut r es ws cs o)
-              → readIn (record { nursery = q .nursery; applied = applied; place = place; ended = q .answer }) es' ws' cs' ≡ endOn es₀ ws₀ cs₀ goal
+              → readIn (record { nursery = q .nursery; applied = applied; place = place; ended = q .answer }) es' ws' cs' ≡ readOn hash r₀ es₀ ws₀ cs₀ s
           after d (refused y) i p f = as-before (40 + d .stats .«payload_bytes») y f (delta-ends hash (roomOf es₀ ws₀ cs₀) here applied place y d rest some-left i (rw room-same at p))
           after d (taken t) i p f = absurd (not-refused (sym (ap (λ (z : Stepped). z .result .answer) f) ∙ ended))
 
           go : (o : Outcome Decoding) → decode hash rest ≡ o → stepped q es' ws' cs' ≡ recordOn r es ws cs o
-              → readIn (record { nursery = q .nursery; applied = applied; place = place; ended = q .answer }) es' ws' cs' ≡ endOn es₀ ws₀ cs₀ goal
+              → readIn (record { nursery = q .nursery; applied = applied; place = place; ended = q .answer }) es' ws' cs' ≡ readOn hash r₀ es₀ ws₀ cs₀ s
           go (refused y) i f = as-before 0 y f (next-refused hash (roomOf es₀ ws₀ cs₀) here applied place y rest some-left i)
           go (taken d) i f = after d (applyDelta (roomOf es ws cs) here (d .delta)) i refl f
 

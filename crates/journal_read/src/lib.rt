@@ -54,7 +54,7 @@ fn apply_record(r: Nursery, es: &mut [u64], ws: &mut [u64], cs: &mut [u8], s: &[
     }
 }
 
-// The records of s, on tables that hold a state.
+// The records of s, on tables that hold a state. The place stays before the record that ends the reading.
 fn read_records(r: Nursery, es: &mut [u64], ws: &mut [u64], cs: &mut [u8], s: &[u8]) -> JournalRead
     requires { ⌜ holds r (now es) (now ws) (now cs) ≡ true ⌝ }
     ensures { λ j. ⌜ readIn j (now (es .exit)) (now (ws .exit)) (now (cs .exit)) ≡ readOn hash r (now (es .entry)) (now (ws .entry)) (now (cs .entry)) (now (s .entry)) ⌝ }
@@ -68,13 +68,14 @@ fn read_records(r: Nursery, es: &mut [u64], ws: &mut [u64], cs: &mut [u8], s: &[
             break JournalRead {
                 nursery: q,
                 applied,
-                place,
+                place: end,
                 ended: Answer::Taken,
             };
         }
         let step = apply_record(q, es, ws, cs, &s[place..]);
         let next = step.nursery;
         q = next;
+        let after = place + step.len;
         let ended = step.answer;
         if let Answer::Refused(_) = ended {
             break JournalRead {
@@ -85,7 +86,7 @@ fn read_records(r: Nursery, es: &mut [u64], ws: &mut [u64], cs: &mut [u8], s: &[
             };
         }
         applied += 1;
-        place += step.len;
+        place = after;
     }
 }
 
