@@ -1,7 +1,7 @@
 -- The checks of the lent tables as loops meet them: row after row, and test after test.
 -- Assumes nothing.
 use mathlib.Core.Path.{_≡_, refl, sym, ap₂, _∙_}
-use mathlib.Core.Bool.{Bool, true, false, not, _&&_, and-false, true≢false}
+use mathlib.Core.Bool.{Bool, true, false, _&&_, and-false}
 use mathlib.Core.List.{List, _∷_, map, append-nil}
 use Prim.Native.Nat.{ℕ, _+_, _-_, _*_, _/_, _^_, _≤_, _<_, min, max}
 use native.Mathlib.Numerals.{add-one}
@@ -21,7 +21,7 @@ use Rattle.cell_nursery.specs.declared.Nursery.{Nursery}
 use Rattle.cell_nursery.specs.Entries.{empty, cellBytes}
 use Rattle.cell_nursery.specs.Calls.{changed, laid, newCall}
 use Rattle.cell_nursery.specs.Layout.{entryRows, cellsOf, recordOf, entriesTable, waitingTable, cellsTable, hashAt, EntryRow, entryRow, WaitingRow, waitingRow, roomOf, endToEnd, inBounds, byHash, byRound, holdsEntries, holdsWaiting, holdsCells, holds}
-use Rattle.cell_nursery.specs.LayoutLaws.{hashes-keys, ends-after, EntriesHeld, WaitingHeld, entries-held, waiting-held}
+use Rattle.cell_nursery.specs.LayoutLaws.{hashes-keys, ends-after, entries-held, waiting-held}
 
 -- ---- row k of a table, and the rows from it on
 abbrev pub entryAtRow : List ℕ → ℕ → EntryRow

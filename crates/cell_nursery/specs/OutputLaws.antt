@@ -7,12 +7,12 @@ use Prim.Native.Nat.{ℕ, zero, suc, _+_, _-_, _*_, _^_, _≤_, _<_}
 use native.Mathlib.Nat.{zero-add}
 use native.Mathlib.Numerals.{add-one}
 use native.Mathlib.Omega.{arith}
-use lib.ListN.{length, take, drop, getD, length-append, length-map, take-append-drop, List·getD-map}
+use lib.ListN.{length, take, drop, getD, length-append, take-append-drop, List·getD-map}
 use lib.Seq.{paste, take-suc, take-all}
-use lib.Dec.{leb, ltb}
+use lib.Dec.{ltb}
 use borrow.Author.Tests.{ltb-true, leb-true, lt-ltb, le-ltb}
 use Rattle.base.specs.Logic.{all, flat, sumOf, overlay}
-use Rattle.base.specs.Bytes.{digits, le16, le32, le64}
+use Rattle.base.specs.Bytes.{le16, le32, le64}
 use Rattle.base.specs.Output.{fitting, put, written}
 use Rattle.base.specs.Laws.{and-left, and-right, flat-append, length-digits}
 use Rattle.base.specs.declared.Answer.the-variants.{Taken, Refused}

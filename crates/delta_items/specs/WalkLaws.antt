@@ -120,6 +120,13 @@ inserts-cells w (suc n) bs e =
     let r = inserts-cells w n (drop (insertLen w bs) bs) (fit-tail w n bs e) in
     omega (arith, suc-mul n (44 + w), cell-length w bs (fit-head w n bs e))
 
+-- so their cells are what their heads leave
+pub heads-fit : (w n : ℕ) (bs : List ℕ) → insertsFit w n bs ≡ true → n * (44 + w) ≤ insertsLen w n bs
+heads-fit w n bs e = omega (arith, inserts-cells w n bs e)
+
+pub cells-left : (w n : ℕ) (bs : List ℕ) → insertsFit w n bs ≡ true → insertsLen w n bs - n * (44 + w) ≡ cellBytes (insertsIn w n bs)
+cells-left w n bs e = omega (arith, inserts-cells w n bs e)
+
 -- ---- they are read as they stand
 
 pub inserts-whole : (w n : ℕ) (bs : List ℕ) → insertsFit w n bs ≡ true → readList (readInsert w) n bs ≡ some (insertsIn w n bs, drop (insertsLen w n bs) bs)

@@ -20,7 +20,7 @@ use Rattle.slices.specs.NumberLaws.{readLe-at, readLe-short}
 use Rattle.cell_nursery.specs.Entries.{cellBytes}
 use Rattle.cell_nursery.specs.Items.{Delta, deltaOf}
 use Rattle.delta_items.specs.Walk.{insertsIn, insertsLen, itemsFit, deltaIn}
-use Rattle.delta_items.specs.WalkLaws.{delta-whole, delta-none, fit-inserts, inserts-cells, length-inserts, length-hashes}
+use Rattle.delta_items.specs.WalkLaws.{delta-whole, delta-none, fit-inserts, cells-left, length-inserts, length-hashes}
 use Rattle.format.specs.Payload.{payloadOf}
 use Rattle.format.specs.Record.{decode, statsOf}
 use Rattle.format.specs.Calls.{decodedOf, decodeCall}
@@ -119,12 +119,6 @@ module _ (n : ℕ) (bs : List ℕ) (long : 40 + n ≤ length bs) where
 
     -- a payload that is taken, whose removes begin at a place of its items
     module _ (at : ℕ) (fit : itemsFit 2 x y (itemsOf n bs) ≡ true) (place : at ≡ insertsLen 2 x (itemsOf n bs)) where
-      cells : at ≡ x * 46 + cellBytes (insertsIn 2 x (itemsOf n bs))
-      cells = place ∙ inserts-cells 2 x (itemsOf n bs) (fit-inserts 2 x y (itemsOf n bs) fit)
-
-      pub heads-fit : x * 46 ≤ at
-      heads-fit = omega (arith, cells)
-
       pub payload-taken : payloadCall n bs
           ≡ record {
             answer = Taken;
@@ -142,7 +136,7 @@ module _ (n : ℕ) (bs : List ℕ) (long : 40 + n ≤ length bs) where
           }
       unfolding payloadCall decodedOf decodingOf statsOf deltaIn
       payload-taken =
-          let c : cellBytes (insertsIn 2 x (itemsOf n bs)) ≡ at - x * 46 = omega (arith, cells) in
+          let c : cellBytes (insertsIn 2 x (itemsOf n bs)) ≡ at - x * 46 = rw place (sym (cells-left 2 x (itemsOf n bs) (fit-inserts 2 x y (itemsOf n bs) fit))) in
           rw (
             payload-items (take n (drop 40 bs)) (omega (arith, length-payload)) (deltaIn 2 x y (itemsOf n bs)) (delta-in ∙ delta-whole 2 x y (itemsOf n bs) fit),
             first-eight,

@@ -18,7 +18,7 @@ use Rattle.cell_nursery.specs.Items.{Delta, itemBytes}
 use Rattle.cell_nursery.specs.Delta.{tooLong}
 use Rattle.cell_nursery.specs.Calls.{lengthWidth}
 use Rattle.delta_items.specs.Walk.{insertsIn, insertsLen, longCell, hashesIn, itemsFit, deltaIn}
-use Rattle.delta_items.specs.WalkLaws.{delta-whole, delta-none, fit-inserts, fit-removes, inserts-cells, length-inserts, length-hashes, too-long}
+use Rattle.delta_items.specs.WalkLaws.{delta-whole, delta-none, fit-inserts, fit-removes, length-inserts, length-hashes, too-long}
 use Rattle.format.specs.Payload.{payloadBytes}
 use Rattle.format.specs.Record.{hashed, recordBytes, statsOf, encode}
 use Rattle.format.specs.Calls.{encodedOut, encodeCall}
@@ -49,18 +49,6 @@ module _ (w n m : ℕ) (items : List ℕ) (short : tooLong (deltaIn w n m items)
 
   pub few-bytes : cellBytes (insertsIn w n items) ≤ 65535 * n
   few-bytes = rw (length-inserts w n items) at (few-cells (insertsIn w n items) short-cells)
-
--- ---- what the inserts' heads leave is their cells
-
-module _ (w n m end : ℕ) (items : List ℕ) (fit : itemsFit w n m items ≡ true) (place : end ≡ insertsLen w n items) where
-  whole : end ≡ n * (44 + w) + cellBytes (insertsIn w n items)
-  whole = place ∙ inserts-cells w n items (fit-inserts w n m items fit)
-
-  pub heads-fit : n * (44 + w) ≤ end
-  heads-fit = omega (arith, whole)
-
-  pub cells-are : end - n * (44 + w) ≡ cellBytes (insertsIn w n items)
-  cells-are = omega (arith, whole)
 
 -- ---- the lengths of a payload and of a record
 

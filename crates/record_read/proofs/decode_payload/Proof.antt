@@ -5,8 +5,8 @@ use mathlib.Core.List.{List}
 use Prim.Native.Nat.{ℕ}
 use native.Mathlib.Omega.{arith}
 use borrow.Author.Needs.{needs}
-use Rattle.delta_items.specs.WalkLaws.{removes-at, removes-past}
-use Rattle.record_read.specs.DecodeLaws.{itemsOf, misfit-short, misfit-past, heads-fit, payload-taken}
+use Rattle.delta_items.specs.WalkLaws.{removes-at, removes-past, fit-inserts, heads-fit}
+use Rattle.record_read.specs.DecodeLaws.{itemsOf, misfit-short, misfit-past, payload-taken}
 use Rattle.record_read.proofs.decode_payload.Statement.{statement}
 use Rattle.record_read.proofs.decode_payload.Tie as tie
 
@@ -77,7 +77,7 @@ cell-bytes-requires c κs =
     let r = c .before .before .before .before .before .before .before .read-le322 in
     let at = c .before .before .before .at .given in
     let there = removes-at 2 (i .result) (r .result) (itemsOf (a .n) s) (at .0 .0) (sym (c .before .before .before .before .before .removes-at .ensures) ∙ at .1) in
-    heads-fit (a .n) s (c .before .before .before .before .before .before .before .before .before .before .before .pre) (omega arith) (i .result) (r .result) (i .ensures) (r .ensures) (at .0 .0) (there .0) (there .1)
+    rw (there .1) (heads-fit 2 (i .result) (itemsOf (a .n) s) (fit-inserts 2 (i .result) (r .result) (itemsOf (a .n) s) (there .0)))
 
 read-le64-requires : tie.Need-read-le64-requires
 read-le64-requires c κs = search needs

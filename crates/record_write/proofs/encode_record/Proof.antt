@@ -1,7 +1,7 @@
 -- `record_write::encode_record`. The tests one after another, each way out by its law; then the record in its parts.
 -- Assumes nothing.
-use mathlib.Core.Path.{_≡_, sym, _∙_}
-use Prim.Native.Nat.{_+_, _-_}
+use mathlib.Core.Path.{_≡_, sym, ap, _∙_}
+use Prim.Native.Nat.{ℕ, _+_, _-_, _*_}
 use native.Mathlib.Omega.{arith}
 use lib.ListN.{length}
 use borrow.Author.Needs.{needs}
@@ -9,10 +9,10 @@ use Rattle.blake3.specs.Spec.{hash}
 use Rattle.blake3.specs.Equations.{length-hash}
 use Rattle.cell_nursery.specs.Calls.{lengthWidth}
 use Rattle.delta_items.specs.Walk.{deltaIn}
-use Rattle.delta_items.specs.WalkLaws.{removes-at, removes-past}
+use Rattle.delta_items.specs.WalkLaws.{removes-at, removes-past, fit-inserts, heads-fit, cells-left}
 use Rattle.format.specs.Payload.{payloadBytes}
 use Rattle.format.specs.Record.{hashed}
-use Rattle.record_write.specs.EncodeLaws.{few-inserts, few-removes, few-bytes, heads-fit, cells-are, length-hashed, encode-broken, encode-long, encode-full, encode-taken, record-laid}
+use Rattle.record_write.specs.EncodeLaws.{few-inserts, few-removes, few-bytes, length-hashed, encode-broken, encode-long, encode-full, encode-taken, record-laid}
 use Rattle.record_write.proofs.encode_record.Statement.{statement}
 use Rattle.record_write.proofs.encode_record.Tie as tie
 
@@ -60,7 +60,7 @@ cell-bytes-requires c κs =
     let w = lengthWidth (a .wide) in
     let end = c .before .before .before .end .given in
     let there = removes-at w (a .inserts) (a .removes) (a .items .now) (end .0 .0) (sym (c .before .before .before .before .before .removes-at .ensures) ∙ end .1) in
-    heads-fit w (a .inserts) (a .removes) (end .0 .0) (a .items .now) (there .0) (there .1)
+    rw (there .1) (heads-fit w (a .inserts) (a .items .now) (fit-inserts w (a .inserts) (a .removes) (a .items .now) (there .0)))
 
 metadata-len-requires : tie.Need-metadata-len-requires
 metadata-len-requires c κs =
@@ -78,7 +78,7 @@ add-payload c =
     let end = c .before .before .before .before .before .end .given in
     let there = removes-at w (a .inserts) (a .removes) (a .items .now) (end .0 .0) (sym (c .before .before .before .before .before .before .before .removes-at .ensures) ∙ end .1) in
     let short = sym (c .before .before .before .any-too-long .ensures) ∙ c .before .before .if1 .left in
-    let cells = c .before .cell-bytes .ensures ∙ cells-are w (a .inserts) (a .removes) (end .0 .0) (a .items .now) (there .0) (there .1) in
+    let cells = c .before .cell-bytes .ensures ∙ ap (λ (e : ℕ). e - a .inserts * (44 + w)) (there .1) ∙ cells-left w (a .inserts) (a .items .now) (fit-inserts w (a .inserts) (a .removes) (a .items .now) (there .0)) in
     omega (arith, c .metadata-len .ensures, cells, few-inserts w (a .inserts) (a .removes) (a .items .now) short, few-removes w (a .inserts) (a .removes) (a .items .now) short, few-bytes w (a .inserts) (a .removes) (a .items .now) short)
 
 add-len : tie.Need-add-len
@@ -88,7 +88,7 @@ add-len c =
     let end = c .before .before .before .before .before .end .given in
     let there = removes-at w (a .inserts) (a .removes) (a .items .now) (end .0 .0) (sym (c .before .before .before .before .before .before .before .removes-at .ensures) ∙ end .1) in
     let short = sym (c .before .before .before .any-too-long .ensures) ∙ c .before .before .if1 .left in
-    let cells = c .before .cell-bytes .ensures ∙ cells-are w (a .inserts) (a .removes) (end .0 .0) (a .items .now) (there .0) (there .1) in
+    let cells = c .before .cell-bytes .ensures ∙ ap (λ (e : ℕ). e - a .inserts * (44 + w)) (there .1) ∙ cells-left w (a .inserts) (a .items .now) (fit-inserts w (a .inserts) (a .removes) (a .items .now) (there .0)) in
     omega (arith, c .metadata-len .ensures, cells, few-inserts w (a .inserts) (a .removes) (a .items .now) short, few-removes w (a .inserts) (a .removes) (a .items .now) short, few-bytes w (a .inserts) (a .removes) (a .items .now) short)
 
 refusal-requires-3 : tie.Need-refusal-requires-3
@@ -101,7 +101,7 @@ returns-3 c =
     let end = c .before .before .before .before .before .before .before .end .given in
     let there = removes-at w (a .inserts) (a .removes) (a .items .now) (end .0 .0) (sym (c .before .before .before .before .before .before .before .before .before .removes-at .ensures) ∙ end .1) in
     let short = sym (c .before .before .before .before .before .any-too-long .ensures) ∙ c .before .before .before .before .if1 .left in
-    let cells = c .before .before .before .cell-bytes .ensures ∙ cells-are w (a .inserts) (a .removes) (end .0 .0) (a .items .now) (there .0) (there .1) in
+    let cells = c .before .before .before .cell-bytes .ensures ∙ ap (λ (e : ℕ). e - a .inserts * (44 + w)) (there .1) ∙ cells-left w (a .inserts) (a .items .now) (fit-inserts w (a .inserts) (a .removes) (a .items .now) (there .0)) in
     rw (c .refusal3 .ensures) (sym (encode-full hash length-hash (a .id) (a .wide) (a .inserts) (a .removes) (a .items .now) (a .out .now) (there .0) short (omega (arith, c .before .before .metadata-len .ensures, cells))))
 
 write-body-requires : tie.Need-write-body-requires
@@ -111,7 +111,7 @@ write-body-requires c κs =
     let end = c .before .before .before .before .before .before .before .end .given in
     let there = removes-at w (a .inserts) (a .removes) (a .items .now) (end .0 .0) (sym (c .before .before .before .before .before .before .before .before .before .removes-at .ensures) ∙ end .1) in
     let short = sym (c .before .before .before .before .before .any-too-long .ensures) ∙ c .before .before .before .before .if1 .left in
-    let cells = c .before .before .before .cell-bytes .ensures ∙ cells-are w (a .inserts) (a .removes) (end .0 .0) (a .items .now) (there .0) (there .1) in
+    let cells = c .before .before .before .cell-bytes .ensures ∙ ap (λ (e : ℕ). e - a .inserts * (44 + w)) (there .1) ∙ cells-left w (a .inserts) (a .items .now) (fit-inserts w (a .inserts) (a .removes) (a .items .now) (there .0)) in
     let m = c .before .before .metadata-len .ensures in
     record { fit = there .0; short = short; place = there .1; stated = omega (arith, m, cells); fits = omega (arith, m, cells) }
 
@@ -128,7 +128,7 @@ returns-4 c =
     let end = c .before .before .before .before .before .before .before .before .before .before .before .before .before .before .end .given in
     let there = removes-at w (a .inserts) (a .removes) (a .items .now) (end .0 .0) (sym (c .before .before .before .before .before .before .before .before .before .before .before .before .before .before .before .before .removes-at .ensures) ∙ end .1) in
     let short = sym (c .before .before .before .before .before .before .before .before .before .before .before .before .any-too-long .ensures) ∙ c .before .before .before .before .before .before .before .before .before .before .before .if1 .left in
-    let cells = c .before .before .before .before .before .before .before .before .before .before .cell-bytes .ensures ∙ cells-are w (a .inserts) (a .removes) (end .0 .0) (a .items .now) (there .0) (there .1) in
+    let cells = c .before .before .before .before .before .before .before .before .before .before .cell-bytes .ensures ∙ ap (λ (e : ℕ). e - a .inserts * (44 + w)) (there .1) ∙ cells-left w (a .inserts) (a .items .now) (fit-inserts w (a .inserts) (a .removes) (a .items .now) (there .0)) in
     let m = c .before .before .before .before .before .before .before .before .before .metadata-len in
     let r = c .before .before .before .before .before .before .before .before .before .before .cell-bytes in
     let d = deltaIn w (a .inserts) (a .removes) (a .items .now) in
