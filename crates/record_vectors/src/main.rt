@@ -18,6 +18,7 @@ use libc::STDIN_FILENO;
 use lines::line_after;
 use lines::line_end;
 use lines::take_line;
+ghost use mathlib.Core.Path.{_≡_};
 ghost use Prim.Native.Nat.{_≤_};
 ghost use lib.ListN.{length};
 
@@ -35,26 +36,45 @@ fn say_name(s: &[u8], at: usize) -> usize
     line_after(s, end)
 }
 
+// Room for the longest line's bytes. The `ensures` gives only the length, so that a caller needn't work it out.
+fn room() -> [u8; 66000]
+    ensures { λ r. ⌜ 66000 ≡ length r ⌝ }
+{
+    [0; 66000]
+}
+
+// Room for the list.
+fn text_room() -> [u8; 330000]
+    ensures { λ r. ⌜ 330000 ≡ length r ⌝ }
+{
+    [0; 330000]
+}
+
 // A case of the first part, and where the next one begins.
 fn encoded_case(s: &[u8], at: usize) -> usize
     requires { ⌜ at ≤ length (now s) ⌝ }
     ensures { λ r. ⌜ r ≤ length (now (s .entry)) ⌝ }
 {
-    let mut call = [0u8; 66000];
+    let mut call = room();
     let mut wanted = [0u8; 64];
-    let mut record = [0u8; 66000];
-    let mut out = [0u8; 66000];
+    let mut record = room();
     let c = take_line(s, say_name(s, at), &mut call);
     let w = take_line(s, c.next, &mut wanted);
     let r = take_line(s, w.next, &mut record);
     let n = c.len;
     let k = w.len;
     let m = r.len;
-    let encoded = encodes(&call[0..n], &wanted[0..k], &record[0..m], &mut out);
-    let decoded = decodes(&record[0..m], &wanted[0..k]);
-    let again = encodes_again(&record[0..m], &mut out);
-    verdict(encoded && decoded && again);
+    verdict(agrees(&call[0..n], &wanted[0..k], &record[0..m]));
     r.next
+}
+
+// The three answers to a case of the first part.
+fn agrees(call: &[u8], wanted: &[u8], record: &[u8]) -> bool {
+    let mut out = room();
+    if !encodes(call, wanted, record, &mut out) {
+        return false;
+    }
+    decodes(record, wanted) && encodes_again(record, &mut out)
 }
 
 // A case of the second part, and where the next one begins.
@@ -97,7 +117,7 @@ fn decoded_cases(s: &[u8], start: usize)
 }
 
 fn main() {
-    let mut text = [0u8; 400000];
+    let mut text = text_room();
     let n = io::read_full(STDIN_FILENO, &mut text);
     let at = encoded_cases(&text[0..n]);
     decoded_cases(&text[0..n], at);
