@@ -1,5 +1,4 @@
 // What the calls give, beside what they should give.
-use base::Answer;
 use byte_numbers::read_le64;
 use byte_slices::equal;
 use format::RecordStats;
@@ -24,7 +23,9 @@ pub fn verdict(agrees: bool) {
     }
 }
 
-fn say_stats(stats: RecordStats) {
+fn say_encoded(number: u8, len: usize, stats: RecordStats) {
+    say_number(b": encoded ", number as u64);
+    say_number(b", bytes ", len as u64);
     say_number(b", figures ", stats.payload_bytes);
     say_number(b" ", stats.metadata_bytes);
     say_number(b" ", stats.cell_bytes);
@@ -68,10 +69,7 @@ pub fn encodes(call: &[u8], wanted: &[u8], record: &[u8], out: &mut [u8]) -> boo
     let answer = e.answer;
     let stats = e.stats;
     let len = e.len;
-    say_number(b": encoded ", answer.number() as u64);
-    say_number(b", ", len as u64);
-    say(b" bytes");
-    say_stats(stats);
+    say_encoded(answer.number(), len, stats);
     if out.len() < len {
         return false;
     }

@@ -5,8 +5,6 @@ use counters::Counters;
 use libc::STDOUT_FILENO;
 use snapshot_read::deserialize_trusted;
 use snapshot_write::serialize;
-ghost use Prim.Native.Nat.{_≤_};
-ghost use lib.ListN.{length};
 
 // What each word of a table is before the call.
 pub const BEFORE: u64 = 7;

@@ -19,6 +19,7 @@ use libc::STDIN_FILENO;
 use lines::line_after;
 use lines::line_end;
 use lines::take_line;
+ghost use mathlib.Core.Path.{_≡_};
 ghost use Prim.Native.Nat.{_≤_};
 ghost use lib.ListN.{length};
 
@@ -34,12 +35,26 @@ fn say_name(s: &[u8], at: usize) -> usize
     line_after(s, end)
 }
 
+// Room for the longest line's bytes. The `ensures` gives only the length, so that a caller needn't work it out.
+fn room() -> [u8; 66000]
+    ensures { λ r. ⌜ 66000 ≡ length r ⌝ }
+{
+    [0; 66000]
+}
+
+// Room for the list.
+fn text_room() -> [u8; 220000]
+    ensures { λ r. ⌜ 220000 ≡ length r ⌝ }
+{
+    [0; 220000]
+}
+
 // The case at `at`, and where the next one begins.
 fn case(s: &[u8], at: usize) -> usize
     requires { ⌜ at ≤ length (now s) ⌝ }
     ensures { λ r. ⌜ r ≤ length (now (s .entry)) ⌝ }
 {
-    let mut wanted = [0u8; 66000];
+    let mut wanted = room();
     let mut snapshot = [0u8; 9000];
     let mut again = [0u8; 9000];
     let mut out = [0u8; 9000];
@@ -70,7 +85,7 @@ fn cases(s: &[u8]) {
 }
 
 fn main() {
-    let mut text = [0u8; 300000];
+    let mut text = text_room();
     let n = io::read_full(STDIN_FILENO, &mut text);
     cases(&text[0..n]);
 }
