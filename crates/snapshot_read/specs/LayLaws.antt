@@ -1,0 +1,150 @@
+-- Counts laid into a table one behind the other, and the ways of the call.
+-- Assumes nothing.
+use mathlib.Core.Path.{_≡_, refl, sym, ap, _∙_}
+use mathlib.Core.Bool.{Bool, true, false, _||_, true≢false}
+use mathlib.Core.List.{List, [], _∷_, _++_, append-nil}
+use Prim.Native.Nat.{ℕ, zero, suc, _+_, _-_, _*_, _/_, _≤_, _<_}
+use native.Mathlib.Omega.{arith}
+use native.Mathlib.Numerals.{add-one}
+use lib.ListN.{length, take, drop, getD, set, length-drop, length-replicate}
+use lib.Seq.{paste, take-suc, drop-cons, drop-length, take-length, length-take-le}
+use lib.Dec.{leb}
+use borrow.Author.Tests.{leb-false}
+use Rattle.base.specs.Logic.{any, flat, zeros, overlay}
+use Rattle.base.specs.ListLaws.{or-false}
+use Rattle.base.specs.Answers.{Outcome, refused, taken}
+use Rattle.base.specs.declared.Refusal.{Refusal}
+use Rattle.base.specs.declared.Answer.the-variants.{Taken, Refused}
+use Rattle.slices.specs.Laws.{paste-start, paste-right, paste-two}
+use Rattle.rows.specs.Table.{rowsOf, tableOf}
+use Rattle.rows.specs.TableLaws.{rowsOf-table, length-table, laid-table, inserted}
+use Rattle.counters.specs.declared.Applied.{Applied}
+use Rattle.counters.specs.declared.Counters.{Counters}
+use Rattle.counters.specs.Counts.{Entry, State, freshMaintenance, fresh}
+use Rattle.counters.specs.Layout as layout
+use Rattle.counters.specs.Layout.{countRow, roomOf, recordOf}
+use Rattle.counters.specs.Calls.{Changed, laid, laidOut}
+use Rattle.counters.specs.Maintenance.{standard}
+use Rattle.snapshot.specs.Read.{readSnapshot}
+use Rattle.snapshot.specs.Calls.{deserializeCall}
+use Rattle.snapshot_judge.specs.declared.Head.{Head}
+use Rattle.snapshot_judge.specs.declared.decide.Plan.{Plan}
+use Rattle.snapshot_judge.specs.declared.decide.Verdict.the-variants as verdicts
+use Rattle.snapshot_judge.specs.TierLaws.{entry, fromIdx, tierOf}
+use Rattle.snapshot_judge.specs.Heads.{setAll}
+use Rattle.snapshot_judge.specs.JoinLaws.{Front, restOf}
+use Rattle.snapshot_judge.specs.Judge.{far}
+use Rattle.snapshot_judge.specs.Decide.{countsOf, Decided, Planned}
+
+-- the record of new counters
+abbrev pub freshRecord : ℕ → ℕ → ℕ → ℕ → Counters
+freshRecord next live stored base =
+    record {
+      «next_idx» = record { 0 = next };
+      «live_cells» = live;
+      stored = stored;
+      maintenance = record { «alive_removed_since_shrink» = 0; «small_removed_since_shrink» = zeros 8; «min_alive_removed_before_shrink» = base };
+    }
+
+-- what the call returns, and the table after it
+abbrev pub changed : Applied → List ℕ → Changed
+changed r t = record { result = r; table = t }
+
+-- ---- a row behind the others
+module _ (len : ℕ) (es : List Entry) (i n : ℕ) (room : length es * 2 + 2 ≤ len) where
+  put-row : set (set (tableOf countRow len es) (length es * 2) i) (length es * 2 + 1) n ≡ tableOf countRow len (es ++ (entry i n ∷ []))
+  put-row =
+      let t = tableOf countRow len es in
+      let k = length es in
+      let l : length t ≡ len = length-table countRow len es (omega arith) in
+      let z : k * 2 - k * 2 ≡ 0 = omega arith in
+      let g = inserted countRow k t (laid-table countRow len es (omega arith)) k (entry i n) (omega arith) (omega arith) in
+      paste-two t (k * 2) i n (omega arith)
+      ∙ paste-right t (k * 2) (i ∷ n ∷ []) 2
+      ∙ (rw (z, rowsOf-table countRow len es, take-length es, drop-length es, append-nil (entry i n ∷ []), l) at g)
+
+-- ---- a step of laying
+module _ (len k : ℕ) (both rest : List Entry) (x n : ℕ) (here : drop k both ≡ entry x n ∷ rest) where
+  more-left : k < length both
+  more-left = let e = ap length here in omega (arith, length-drop k both)
+
+  first-left : getD both k (entry x n) ≡ entry x n
+  first-left = let e : getD both k (entry x n) ∷ drop (suc k) both ≡ entry x n ∷ rest = sym (drop-cons both k (entry x n) more-left) ∙ here in cc
+
+  pub rest-left : drop (k + 1) both ≡ rest
+  rest-left =
+      let e : getD both k (entry x n) ∷ drop (suc k) both ≡ entry x n ∷ rest = sym (drop-cons both k (entry x n) more-left) ∙ here in
+      let f : drop (suc k) both ≡ rest = cc in
+      rw (add-one k) f
+
+  pub lay-turn : (t : List ℕ) → length both * 2 ≤ len → t ≡ tableOf countRow len (take k both)
+      → set (set t (k * 2) x) (k * 2 + 1) n ≡ tableOf countRow len (take (k + 1) both)
+  lay-turn t room e =
+      let l : length (take k both) ≡ k = length-take-le k both (omega (arith, more-left)) in
+      let p : length (take k both) * 2 + 2 ≤ len = omega (arith, more-left) in
+      rw (e, add-one k, take-suc both k (entry x n) more-left, first-left) (rw l at (put-row len (take k both) x n p))
+
+pub lay-start : (len : ℕ) (t : List ℕ) (both : List Entry) → t ≡ zeros (length t) → t ≡ tableOf countRow (length t) (take 0 both)
+unfolding tableOf flat
+lay-start len t both e = let z : length t - 0 * 2 ≡ length t = omega arith in rw z e
+
+pub lay-end : (len k : ℕ) (both : List Entry) → k ≡ length both → tableOf countRow len (take k both) ≡ tableOf countRow len both
+lay-end len k both e = rw (e, take-length both)
+
+-- where counts are left, the first is found, and its index is below the next one
+any-drop : (next k : ℕ) (es : List Entry) → any (far next) es ≡ false → any (far next) (drop k es) ≡ false
+unfolding any
+any-drop next zero es a = a
+any-drop next (suc k) [] a = refl
+any-drop next (suc k) (e ∷ es) a = any-drop next k es (or-false (far next e) (any (far next) es) a .1)
+
+module _ (lo : ℕ) (xss : List (List ℕ)) (big both : List Entry) (a b f : Head) (p : Front lo xss big a b f) (k : ℕ) (left : k < length both)
+    (here : drop k both ≡ setAll (fromIdx lo big) (tierOf xss)) where
+  pub found-left : f .found ≡ true
+  found-left = go (f .found) refl
+    where
+      go : (q : Bool) → f .found ≡ q → q ≡ true
+      go true e = refl
+      go false e = let z = ap length (here ∙ p .ended e) in absurd (omega (arith, length-drop k both))
+
+  pub row-left : drop k both ≡ entry (f .idx) (f .count) ∷ setAll (fromIdx (f .idx + 1) big) (tierOf (restOf (f .idx) xss))
+  row-left = here ∙ rw (add-one (f .idx)) (p .rows found-left)
+
+  pub row-below : (next : ℕ) → any (far next) both ≡ false → f .idx < next
+  unfolding any
+  row-below next g =
+      let q : any (far next) (entry (f .idx) (f .count) ∷ setAll (fromIdx (f .idx + 1) big) (tierOf (restOf (f .idx) xss))) ≡ false = rw row-left at (any-drop next k both g) in
+      leb-false next (f .idx) (or-false (leb next (f .idx)) (any (far next) (setAll (fromIdx (f .idx + 1) big) (tierOf (restOf (f .idx) xss)))) q .0)
+
+-- ---- the ways of the call
+pub zeros-filled : (t : List ℕ) → paste t 0 (zeros (length t)) (length t) ≡ zeros (length t)
+unfolding overlay
+zeros-filled t =
+    paste-start t (zeros (length t)) (length t) (length-replicate {A = ℕ} (length t) 0)
+    ∙ rw (length-replicate {A = ℕ} (length t) 0, drop-length t, append-nil (zeros (length t)))
+
+module _ (s t : List ℕ) where
+  pub call-refused : (q : Refusal) → Decided s (length t / 2) (verdicts.Refused q)
+      → record { result = record { answer = Refused q; counters = freshRecord 0 0 0 0 }; table = t } ≡ deserializeCall (standard .base) s t
+  unfolding deserializeCall laidOut recordOf fresh freshMaintenance
+  call-refused q d = rw (← d .outcome (standard .base))
+
+  pub call-taken : (p : Plan) → Decided s (length t / 2) (verdicts.Fits p)
+      → record { result = record { answer = Taken; counters = freshRecord (p .next) (p .live) (p .rows) 131072 }; table = tableOf countRow (length t) (countsOf s (p .end) (p .large)) }
+      ≡ deserializeCall (standard .base) s t
+  unfolding deserializeCall laidOut laid recordOf layout.tableOf freshMaintenance standard
+  call-taken p d = rw (← d .outcome (standard .base), d .plan .rows)
+
+  module _ (u : List ℕ) (e : u ≡ paste t 0 (zeros (length t)) (length t)) where
+    filled : u ≡ zeros (length t)
+    filled = e ∙ zeros-filled t
+
+    length-filled : length u ≡ length t
+    length-filled = ap length filled ∙ length-replicate {A = ℕ} (length t) 0
+
+    pub lay-filled : (p : Plan) → Planned s (length t / 2) p → (u ≡ zeros (length u)) × Planned s (length u / 2) p
+    lay-filled p q = (filled ∙ ap zeros (sym length-filled), rw length-filled q)
+
+    pub call-laid : (p : Plan) (w : List ℕ) (c : Counters) → w ≡ tableOf countRow (length u) (countsOf s (p .end) (p .large)) → c ≡ freshRecord (p .next) (p .live) (p .rows) 131072
+        → Decided s (length t / 2) (verdicts.Fits p) → record { result = record { answer = Taken; counters = c }; table = w } ≡ deserializeCall (standard .base) s t
+    call-laid p w c g h d = rw (g, length-filled, h) (call-taken p d)

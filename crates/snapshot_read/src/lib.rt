@@ -1,0 +1,90 @@
+// Reading a counters' snapshot into a lent table of any content. All is decided before the first write, so that a refusal
+// leaves the table as it was; then both tiers are gone through once more, by index, and each count is laid behind the one before.
+use base::Answer;
+use counters::Applied;
+use counters::CounterMaintenance;
+use counters::Counters;
+use counters::NextIdx;
+use snapshot_judge::decide::Plan;
+use snapshot_judge::decide::Verdict;
+use snapshot_judge::decide::decide;
+use snapshot_judge::judge::first;
+use snapshot_judge::lanes::advance;
+use snapshot_judge::lanes::open_all;
+use snapshot_judge::lanes::small_head;
+use snapshot_judge::large::large_head;
+ghost use mathlib.Core.Path.{_≡_};
+ghost use Prim.Native.Nat.{_/_};
+ghost use lib.ListN.{length};
+ghost use Rattle.base.specs.Logic.{zeros};
+ghost use Rattle.rows.specs.Table.{tableOf};
+ghost use Rattle.counters.specs.Layout.{countRow};
+ghost use Rattle.counters.specs.Maintenance.{standard};
+ghost use Rattle.snapshot.specs.Calls.{deserializeCall};
+ghost use Rattle.snapshot_judge.specs.Decide.{countsOf, Planned};
+ghost use Rattle.snapshot_read.specs.LayLaws.{freshRecord, changed};
+
+// The counts of both tiers go into a table of zeros, by index.
+fn lay(t: &mut [u64], s: &[u8], p: Plan)
+    requires { ⌜ (now t ≡ zeros (length (now t))) × (Planned (now s) (length (now t) / 2) p) ⌝ }
+    ensures { λ _. ⌜ now (t .exit) ≡ tableOf countRow (length (now (t .entry))) (countsOf (now (s .entry)) (p .end) (p .large)) ⌝ }
+{
+    let rows = p.rows;
+    let mut lanes = open_all(s, 17);
+    let mut lo: u64 = 0;
+    let mut k = 0;
+    while k < rows {
+        let a = small_head(lanes);
+        let b = large_head(s, p.end, p.large, lo);
+        let f = first(a, b);
+        let x = f.idx;
+        t[k * 2] = x;
+        t[k * 2 + 1] = f.count;
+        let moved = advance(s, lanes, x);
+        lanes = moved;
+        lo = x + 1;
+        k += 1;
+    }
+}
+
+// A record with the starting threshold `base`, and with no removals.
+fn record_of(next: u64, live: u64, stored: usize, base: u64) -> Counters
+    ensures { λ r. ⌜ r ≡ freshRecord next live stored base ⌝ }
+{
+    Counters {
+        next_idx: NextIdx(next),
+        live_cells: live,
+        stored,
+        maintenance: CounterMaintenance {
+            alive_removed_since_shrink: 0,
+            small_removed_since_shrink: [0; 8],
+            min_alive_removed_before_shrink: base,
+        },
+    }
+}
+
+// The counters that a snapshot holds, laid into the table. Where they are refused the record is all zeros.
+pub fn deserialize_trusted(s: &[u8], t: &mut [u64]) -> Applied
+    ensures { λ r. ⌜ changed r (now (t .exit)) ≡ deserializeCall (standard .base) (now (s .entry)) (now (t .entry)) ⌝ }
+{
+    let len = t.len();
+    let v = decide(s, len / 2);
+    match v {
+        Verdict::Refused(q) => {
+            let counters = record_of(0, 0, 0, 0);
+            Applied {
+                answer: Answer::Refused(q),
+                counters,
+            }
+        }
+        Verdict::Fits(p) => {
+            word_slices::fill(t, 0, len, 0);
+            lay(t, s, p);
+            let counters = record_of(p.next, p.live, p.rows, 131072);
+            Applied {
+                answer: Answer::Taken,
+                counters,
+            }
+        }
+    }
+}
