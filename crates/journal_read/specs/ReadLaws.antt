@@ -1,0 +1,222 @@
+-- Records read in turn: what holds of the tables between two of them, and how the reading ends.
+-- Assumes nothing.
+use mathlib.Core.Path.{_≡_, refl, sym, ap, _∙_}
+use mathlib.Core.Bool.{true}
+use mathlib.Core.List.{List, [], _∷_}
+use Prim.Native.Nat.{ℕ, suc, _+_, _-_, _/_, _≤_, _<_, min}
+use native.Mathlib.Numerals.{add-one}
+use native.Mathlib.Omega.{arith}
+use lib.ListN.{length, take, drop, length-drop}
+use lib.Seq.{drop-drop, drop-length, take-all}
+use Rattle.base.specs.Logic.{sumOf}
+use Rattle.base.specs.Answers.{Outcome, refused, taken}
+use Rattle.base.specs.declared.Refusal.{Refusal}
+use Rattle.base.specs.declared.Answer.{Answer}
+use Rattle.base.specs.declared.Answer.the-variants.{Taken, Refused}
+use Rattle.cell_nursery.specs.declared.Nursery.{Nursery}
+use Rattle.cell_nursery.specs.declared.Committed.{Committed}
+use Rattle.cell_nursery.specs.Entries.{State, empty, cellBytes}
+use Rattle.cell_nursery.specs.Delta.{Room, used, applyDelta}
+use Rattle.cell_nursery.specs.Layout.{recordOf, entriesTable, waitingTable, cellsTable, roomOf, stateOf, holds}
+use Rattle.cell_nursery.specs.Calls.{Changed, changed, laid, laidOut, newCall}
+use Rattle.cell_nursery.specs.HashLaws.{U64}
+use Rattle.cell_nursery.specs.LayoutLaws.{WellFormed, Held, held, length-entriesTable, length-waitingTable, length-cellsTable, stateOf-laid, holds-laid}
+use Rattle.cell_nursery.specs.EntryLaws.{well-empty, well-after, InRoom, room-after}
+use Rattle.format.specs.Record.{Decoding, decode}
+use Rattle.journal.specs.Journal.{End, readFrom, readJournal, readCall, readFrom-taken, readFrom-refused}
+use Rattle.journal_laws.specs.DeltaLaws.{delta-read, delta-fits, taken-accepted}
+use Rattle.journal_read.specs.declared.Step.{Step}
+use Rattle.journal_read.specs.Reading.{Stepped, stepped, beside, recordOn, recordCall, readIn, endOn, readOn}
+use Rattle.journal_read.specs.RecordLaws.{U8, u8-drop, u8-part, decode-whole, not-refused}
+
+-- ---- the record at the start of what is left
+module _ (hash : List ℕ → List ℕ) (m : Room) (s : State) (applied place : ℕ) where
+  next-taken : (t : State) (d : Decoding) (l : List ℕ) → 0 < length l → decode hash l ≡ taken d → applyDelta m s (d .delta) ≡ taken t
+      → readFrom hash m s applied place 0 l ≡ readFrom hash m t (suc applied) (place + 40 + d .stats .«payload_bytes») 0 (drop (40 + d .stats .«payload_bytes») l)
+  next-taken t d [] h p q = absurd (omega arith)
+  next-taken t d (b ∷ bs) h p q = readFrom-taken hash m s t applied place b bs d p q
+
+  next-refused : (x : Refusal) (l : List ℕ) → 0 < length l → decode hash l ≡ refused x
+      → readFrom hash m s applied place 0 l ≡ record { state = s; applied = applied; place = place; ended = Refused x }
+  next-refused x [] h p = absurd (omega arith)
+  next-refused x (b ∷ bs) h p = readFrom-refused hash m s applied place b bs x p
+
+  -- a delta that is refused ends the reading too
+  delta-ends : (x : Refusal) (d : Decoding) (l : List ℕ) → 0 < length l → decode hash l ≡ taken d → applyDelta m s (d .delta) ≡ refused x
+      → readFrom hash m s applied place 0 l ≡ record { state = s; applied = applied; place = place; ended = Refused x }
+  unfolding readFrom
+  delta-ends x d [] h p q = absurd (omega arith)
+  delta-ends x d (b ∷ bs) h p q = rw (p, q)
+
+-- ---- between two records
+module _ (hash : List ℕ → List ℕ) (s es₀ ws₀ cs₀ : List ℕ) (goal : End) where
+  -- the tables hold a state, from which the rest of the journal leads to the goal
+  pub record Reading (r : Nursery) (es ws cs : List ℕ) (applied place : ℕ) : Type 0 where
+    pub u64-es : U64 es
+    pub u64-ws : U64 ws
+    pub holding : holds r es ws cs ≡ true
+    pub size-es : length es ≡ length es₀
+    pub size-ws : length ws ≡ length ws₀
+    pub size-cs : length cs ≡ length cs₀
+    pub inside : place ≤ length s
+    pub counted : applied ≤ place
+    pub leads : readFrom hash (roomOf es₀ ws₀ cs₀) (stateOf r es ws cs) applied place 0 (drop place s) ≡ goal
+
+  -- a record of n bytes was applied
+  pub record Applied (r : Nursery) (n : ℕ) (es ws cs : List ℕ) (applied place : ℕ) : Type 0 where
+    pub some : 0 < n
+    pub next : Reading r es ws cs (applied + 1) (place + n)
+
+  module _ (r : Nursery) (es ws cs : List ℕ) (applied place : ℕ) (x : Reading r es ws cs applied place) where
+    abbrev here : State
+    here = stateOf r es ws cs
+
+    is-held : Held r es ws cs
+    is-held = held r es ws cs (x .u64-es) (x .u64-ws) (x .holding)
+
+    room-same : roomOf es ws cs ≡ roomOf es₀ ws₀ cs₀
+    unfolding roomOf
+    room-same = rw (x .size-es, x .size-ws, x .size-cs)
+
+    -- the reading ends here
+    closed : (a : Answer) → readFrom hash (roomOf es₀ ws₀ cs₀) here applied place 0 (drop place s) ≡ record { state = here; applied = applied; place = place; ended = a }
+        → readIn (record { nursery = r; applied = applied; place = place; ended = a }) es ws cs ≡ endOn es₀ ws₀ cs₀ goal
+    unfolding endOn laid
+    closed a e =
+        let h = is-held in
+        rw (← x .leads, e, ← x .size-es, ← x .size-ws, ← x .size-cs, h .same-record, h .same-entries, h .same-waiting, h .same-cells)
+
+    pub finished : place ≡ length s → readIn (record { nursery = r; applied = applied; place = place; ended = Taken }) es ws cs ≡ endOn es₀ ws₀ cs₀ goal
+    unfolding readFrom
+    finished e = closed Taken (rw (e, drop-length s))
+
+    -- what a record at this place did; the bytes from there on are lent as a part of the journal
+    module _ (more : place < length s) (u : U8 s) (q : Step) (es' ws' cs' : List ℕ) (e : stepped q es' ws' cs' ≡ recordCall hash r es ws cs (take (length s - place) (drop place s))) where
+      abbrev rest : List ℕ
+      rest = drop place s
+
+      some-left : 0 < length rest
+      some-left = omega (arith, length-drop place s)
+
+      on-rest : stepped q es' ws' cs' ≡ recordCall hash r es ws cs rest
+      on-rest = e ∙ ap (λ (l : List ℕ). recordCall hash r es ws cs l) (take-all (length s - place) rest (omega (arith, length-drop place s)))
+
+      -- it was refused, or its delta was: nothing changed
+      pub stopped : (a : Refusal) → q .answer ≡ Refused a → readIn (record { nursery = q .nursery; applied = applied; place = place; ended = q .answer }) es' ws' cs' ≡ endOn es₀ ws₀ cs₀ goal
+      unfolding recordCall recordOn laidOut laid
+      stopped a ended = go (decode hash rest) refl on-rest
+        where
+          as-before : (k : ℕ) (y : Refusal) → stepped q es' ws' cs' ≡ beside k (laidOut r es ws cs (refused y))
+              → readFrom hash (roomOf es₀ ws₀ cs₀) here applied place 0 rest ≡ record { state = here; applied = applied; place = place; ended = Refused y }
+              → readIn (record { nursery = q .nursery; applied = applied; place = place; ended = q .answer }) es' ws' cs' ≡ endOn es₀ ws₀ cs₀ goal
+          as-before k y f l =
+              rw (
+                ap (λ (z : Stepped). z .result .answer) f,
+                ap (λ (z : Stepped). z .result .nursery) f,
+                ap (λ (z : Stepped). z .entries) f,
+                ap (λ (z : Stepped). z .waiting) f,
+                ap (λ (z : Stepped). z .cells) f,
+              )
+              (closed (Refused y) l)
+
+          after : (d : Decoding) (o : Outcome State) → decode hash rest ≡ taken d → applyDelta (roomOf es ws cs) here (d .delta) ≡ o
+              → stepped q es' ws' cs' ≡ beside (40 + d .stats .«payload_bytes») (laidOut r es ws cs o)
+              → readIn (record { nursery = q .nursery; applied = applied; place = place; ended = q .answer }) es' ws' cs' ≡ endOn es₀ ws₀ cs₀ goal
+          after d (refused y) i p f = as-before (40 + d .stats .«payload_bytes») y f (delta-ends hash (roomOf es₀ ws₀ cs₀) here applied place y d rest some-left i (rw room-same at p))
+          after d (taken t) i p f = absurd (not-refused (sym (ap (λ (z : Stepped). z .result .answer) f) ∙ ended))
+
+          go : (o : Outcome Decoding) → decode hash rest ≡ o → stepped q es' ws' cs' ≡ recordOn r es ws cs o
+              → readIn (record { nursery = q .nursery; applied = applied; place = place; ended = q .answer }) es' ws' cs' ≡ endOn es₀ ws₀ cs₀ goal
+          go (refused y) i f = as-before 0 y f (next-refused hash (roomOf es₀ ws₀ cs₀) here applied place y rest some-left i)
+          go (taken d) i f = after d (applyDelta (roomOf es ws cs) here (d .delta)) i refl f
+
+      -- it was applied
+      pub advanced : U64 es' → U64 ws' → q .answer ≡ Taken → Applied (q .nursery) (q .len) es' ws' cs' applied place
+      unfolding recordCall recordOn laidOut laid roomOf
+      advanced v w going = go (decode hash rest) refl on-rest
+        where
+          laid-out : (d : Decoding) (t : State) → decode hash rest ≡ taken d → applyDelta (roomOf es ws cs) here (d .delta) ≡ taken t
+              → q .nursery ≡ recordOf t → q .len ≡ 40 + d .stats .«payload_bytes» → es' ≡ entriesTable (length es) t → ws' ≡ waitingTable (length ws) t → cs' ≡ cellsTable (length cs) t → Applied (q .nursery) (q .len) es' ws' cs' applied place
+          laid-out d t i p a b f g h =
+              let size = d .stats .«payload_bytes» in
+              let inserts = d .stats .«insert_ops» in
+              let removes = d .stats .«remove_ops» in
+              let bytes = u8-drop place s u in
+              let whole = decode-whole rest hash d bytes i in
+              let (ok, same) = taken-accepted (roomOf es ws cs) here (d .delta) t p in
+              let read = delta-read 2 inserts removes (take (size - 16) (drop 56 rest)) (d .delta) (u8-part 56 (size - 16) rest (omega (arith, whole .head, whole .inside)) bytes) (whole .items) in
+              let well : WellFormed t = rw same (well-after (d .delta) here (delta-fits 0 inserts removes (d .delta) (omega arith) read (ok .short) .inserts) (is-held .well)) in
+              let fit : InRoom (min (length es / 8) (length ws / 5)) (length cs) t = rw same (room-after (roomOf es ws cs) (d .delta) here (ok .fits)) in
+              let state-same : stateOf (q .nursery) es' ws' cs' ≡ t = rw (a, f, g, h) (stateOf-laid t (length es) (length ws) (length cs) well (fit .rows-fit) (fit .bytes-fit)) in
+              let turn = next-taken hash (roomOf es₀ ws₀ cs₀) here applied place t d rest some-left i (rw room-same at p) in
+              let k : place + (40 + size) ≡ place + 40 + size = omega arith in
+              let left = length-drop place s in
+              record {
+                some = omega (arith, b);
+                next =
+                    record {
+                      u64-es = v;
+                      u64-ws = w;
+                      holding = rw (a, f, g, h) (holds-laid t (length es) (length ws) (length cs) well (fit .rows-fit) (fit .bytes-fit));
+                      size-es = ap length f ∙ length-entriesTable t (length es) (length ws) (length cs) well (fit .rows-fit) (fit .bytes-fit) ∙ x .size-es;
+                      size-ws = ap length g ∙ length-waitingTable t (length es) (length ws) (length cs) well (fit .rows-fit) (fit .bytes-fit) ∙ x .size-ws;
+                      size-cs = ap length h ∙ length-cellsTable t (length es) (length ws) (length cs) well (fit .rows-fit) (fit .bytes-fit) ∙ x .size-cs;
+                      inside = omega (arith, b, left, whole .inside);
+                      counted = omega (arith, b, x .counted);
+                      leads = rw (state-same, add-one applied, b, ← drop-drop (40 + size) place s, k) (sym turn ∙ x .leads);
+                    };
+              }
+
+          after : (d : Decoding) (o : Outcome State) → decode hash rest ≡ taken d → applyDelta (roomOf es ws cs) here (d .delta) ≡ o
+              → stepped q es' ws' cs' ≡ beside (40 + d .stats .«payload_bytes») (laidOut r es ws cs o) → Applied (q .nursery) (q .len) es' ws' cs' applied place
+          after d (refused y) i p f = absurd (not-refused (sym going ∙ ap (λ (z : Stepped). z .result .answer) f))
+          after d (taken t) i p f =
+              laid-out d t i p (ap (λ (z : Stepped). z .result .nursery) f) (ap (λ (z : Stepped). z .result .len) f) (ap (λ (z : Stepped). z .entries) f)
+              (ap (λ (z : Stepped). z .waiting) f) (ap (λ (z : Stepped). z .cells) f)
+
+          go : (o : Outcome Decoding) → decode hash rest ≡ o → stepped q es' ws' cs' ≡ recordOn r es ws cs o → Applied (q .nursery) (q .len) es' ws' cs' applied place
+          go (refused y) i f = absurd (not-refused (sym going ∙ ap (λ (z : Stepped). z .result .answer) f))
+          go (taken d) i f = after d (applyDelta (roomOf es ws cs) here (d .delta)) i refl f
+
+-- ---- an empty nursery, made in tables of any content
+module _ (es ws cs : List ℕ) (c : Committed) (es' ws' cs' : List ℕ) (e : changed c es' ws' cs' ≡ newCall es ws cs) where
+  no-rows : used empty ≤ min (length es / 8) (length ws / 5)
+  unfolding empty used
+  no-rows = omega arith
+
+  no-bytes : cellBytes (empty .entries) ≤ length cs
+  unfolding empty cellBytes sumOf
+  no-bytes = omega arith
+
+  is-record : c .nursery ≡ recordOf empty
+  unfolding newCall laid
+  is-record = ap (λ (z : Changed). z .result .nursery) e
+
+  is-entries : es' ≡ entriesTable (length es) empty
+  unfolding newCall laid
+  is-entries = ap (λ (z : Changed). z .entries) e
+
+  is-waiting : ws' ≡ waitingTable (length ws) empty
+  unfolding newCall laid
+  is-waiting = ap (λ (z : Changed). z .waiting) e
+
+  is-cells : cs' ≡ cellsTable (length cs) empty
+  unfolding newCall laid
+  is-cells = ap (λ (z : Changed). z .cells) e
+
+  pub fresh-holds : holds (c .nursery) es' ws' cs' ≡ true
+  fresh-holds = rw (is-record, is-entries, is-waiting, is-cells) (holds-laid empty (length es) (length ws) (length cs) well-empty no-rows no-bytes)
+
+  pub fresh-read : (hash : List ℕ → List ℕ) (s : List ℕ) → readOn hash (c .nursery) es' ws' cs' s ≡ readCall hash s es ws cs
+  unfolding readOn endOn readCall readJournal laid roomOf
+  fresh-read hash s =
+      rw (
+        is-record,
+        is-entries,
+        is-waiting,
+        is-cells,
+        stateOf-laid empty (length es) (length ws) (length cs) well-empty no-rows no-bytes,
+        length-entriesTable empty (length es) (length ws) (length cs) well-empty no-rows no-bytes,
+        length-waitingTable empty (length es) (length ws) (length cs) well-empty no-rows no-bytes,
+        length-cellsTable empty (length es) (length ws) (length cs) well-empty no-rows no-bytes,
+      )
