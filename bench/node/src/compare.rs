@@ -1,13 +1,14 @@
 // What is compared. Both sides give the same answer, and are timed in turns. A figure is the median of the turns, in
 // processor time of this thread. All runs inside the original's pool of one thread, so its calls pass work to no other thread.
 use std::hint::black_box;
+use std::num::NonZeroUsize;
 use std::sync::Arc;
 
 use bytes::Bytes;
 use rayon::ThreadPool;
 use tycho_types::cell::HashBytes;
 
-use super::cell_nursery::{NurseryDelta, NurseryEntryRecord};
+use super::cell_nursery::{CellNursery, NurseryDelta, NurseryEntryRecord};
 use super::counters::{Counters, Idx, NextIdx};
 use super::nursery_persistence::format;
 use crate::port;
@@ -31,6 +32,8 @@ pub fn run(words: &[String]) {
         for items in [10, 1_000, 10_000] {
             run.record(items);
         }
+        run.journal(1_000);
+        run.journal(10_000);
         for n in [1_000, 100_000, 1_000_000] {
             run.get(n);
         }
@@ -94,6 +97,16 @@ fn mixed(x: u64) -> u64 {
 fn count_of(i: u64) -> u64 {
     let x = mixed(i);
     if i % 100 == 99 { 257 + x % 1_000_000 } else { 2 + x % 255 }
+}
+
+// A cell of 100 bytes.
+fn insert(i: u64) -> NurseryEntryRecord {
+    NurseryEntryRecord {
+        hash: HashBytes(std::array::from_fn(|k| mixed(i * 4 + k as u64 / 8).to_be_bytes()[k % 8])),
+        idx: Idx::new(i),
+        born_round: i as u32 / 100,
+        data: Bytes::from((0..100).map(|k| mixed(i * 100 + k) as u8).collect::<Vec<u8>>()),
+    }
 }
 
 fn original_batch(c: &mut Counters, words: &[u64]) {
@@ -184,12 +197,6 @@ impl Run<'_> {
         if !self.wanted(&what) {
             return;
         }
-        let insert = |i: u64| NurseryEntryRecord {
-            hash: HashBytes(std::array::from_fn(|k| mixed(i * 4 + k as u64 / 8).to_le_bytes()[k % 8])),
-            idx: Idx::new(i),
-            born_round: 7,
-            data: Bytes::from((0..100).map(|k| mixed(i * 100 + k) as u8).collect::<Vec<u8>>()),
-        };
         let delta = NurseryDelta { inserts: (0..inserts).map(insert).collect(), removes: Vec::new() };
         let mut items = Vec::new();
         for e in &delta.inserts {
@@ -227,6 +234,42 @@ impl Run<'_> {
             (1, 1),
             &mut || _ = black_box(port::decode_record(&record)),
             &mut || drop(black_box(format::decode_record(&mut &record[..], &mut buffer).unwrap())),
+        );
+    }
+
+    // Records of one insert each, into an empty nursery.
+    fn journal(&self, records: u64) {
+        let what = format!("journal, {records} records");
+        if !self.wanted(&what) {
+            return;
+        }
+        let delta = |i: u64| NurseryDelta { inserts: vec![insert(i)], removes: Vec::new() };
+        let journal: Vec<u8> = (0..records).flat_map(|i| format::encode_record(i, &delta(i)).bytes().to_vec()).collect();
+        let mut buffer = Vec::new();
+        let mut original = || {
+            let nursery = CellNursery::new(NonZeroUsize::MIN, self.pool.clone());
+            let mut rest = &journal[..];
+            while !rest.is_empty() {
+                nursery.apply_commit(format::decode_record(&mut rest, &mut buffer).unwrap().delta);
+            }
+            nursery
+        };
+        let n = records as usize;
+        let (mut entries, mut waiting, mut cells) = (vec![0; 8 * n], vec![0; 5 * n], vec![0; 100 * n]);
+        assert_eq!(port::read_journal(&journal, &mut entries, &mut waiting, &mut cells), n);
+        let mut listed = original().snapshot_entries();
+        listed.sort_by_key(|e| e.hash.0);
+        assert_eq!(listed.len(), n);
+        for (e, row) in listed.iter().zip(entries.chunks_exact(8)) {
+            let hash: Vec<u8> = row[..4].iter().flat_map(|w| w.to_be_bytes()).collect();
+            assert!(hash == e.hash.0 && row[4] == e.idx.get() && row[5] == u64::from(e.born_round), "the two nurseries differ");
+            assert!(cells[row[6] as usize..][..row[7] as usize] == e.data[..], "the two nurseries' cells differ");
+        }
+        self.measure(
+            &what,
+            (1, 1),
+            &mut || _ = black_box(port::read_journal(&journal, &mut entries, &mut waiting, &mut cells)),
+            &mut || drop(black_box(original())),
         );
     }
 

@@ -19,6 +19,17 @@ unsafe extern "C" {
         room: usize,
         figures: &mut [u64; 6],
     ) -> u8;
+    fn selvaigo_read_journal(
+        s: *const u8,
+        len: usize,
+        entries: *mut u64,
+        entries_len: usize,
+        waiting: *mut u64,
+        waiting_len: usize,
+        cells: *mut u8,
+        cells_len: usize,
+        figures: &mut [u64; 5],
+    ) -> u8;
     fn selvaigo_decode_record(s: *const u8, len: usize, figures: &mut [u64; 8], hash: &mut [u8; 32]) -> u8;
 }
 
@@ -101,4 +112,15 @@ pub fn decode_record(s: &[u8]) -> Decoded {
         remove_ops: f[7],
         hash,
     }
+}
+
+// How many records were applied.
+pub fn read_journal(s: &[u8], entries: &mut [u64], waiting: &mut [u64], cells: &mut [u8]) -> usize {
+    let mut figures = [0; 5];
+    let (e, w, c) = (entries.as_mut_ptr(), waiting.as_mut_ptr(), cells.as_mut_ptr());
+    let answer = unsafe {
+        selvaigo_read_journal(s.as_ptr(), s.len(), e, entries.len(), w, waiting.len(), c, cells.len(), &mut figures)
+    };
+    assert_eq!((answer, figures[4]), (0, s.len() as u64));
+    figures[3] as usize
 }

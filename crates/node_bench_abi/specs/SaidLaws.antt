@@ -13,7 +13,9 @@ use Rattle.counters.specs.Calls.{Changed}
 use Rattle.format.specs.declared.Encoded.{Encoded}
 use Rattle.format.specs.declared.Decoded.{Decoded}
 use Rattle.format.specs.Calls.{EncodedOut}
-use Rattle.node_bench_abi.specs.Words.{countersOf, wordsOf, statWords, Said, said, gotSaid, changedSaid, writtenSaid, encodedSaid, decodedSaid}
+use Rattle.journal.specs.declared.JournalRead.{JournalRead}
+use Rattle.journal.specs.Journal.{ReadIn}
+use Rattle.node_bench_abi.specs.Words.{countersOf, wordsOf, statWords, Said, said, gotSaid, changedSaid, writtenSaid, encodedSaid, decodedSaid, saidRead, readWords, journalSaid}
 
 pub got-said : {x y : Got} {r : ℕ} → x ≡ y → r ≡ answerNumber (x .answer) → said r (x .count .0 ∷ []) [] ≡ gotSaid y
 unfolding gotSaid
@@ -38,3 +40,8 @@ pub decoded-said : {x y : Decoded} {r : ℕ} → x ≡ y → r ≡ answerNumber 
     → said r (x .id ∷ x .«items_at» ∷ x .«items_len» ∷ statWords (x .stats)) (x .hash) ≡ decodedSaid y
 unfolding decodedSaid
 decoded-said e p = rw p (ap decodedSaid e)
+
+pub journal-said : {x : JournalRead} {es ws cs : List ℕ} {y : ReadIn} {r : ℕ} → record { result = x; entries = es; waiting = ws; cells = cs } ≡ y
+    → r ≡ answerNumber (x .ended) → saidRead r (readWords x) es ws cs ≡ journalSaid y
+unfolding journalSaid
+journal-said e p = rw p (ap journalSaid e)

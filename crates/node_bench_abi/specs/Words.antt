@@ -11,6 +11,8 @@ use Rattle.counters.specs.Calls.{Changed}
 use Rattle.format.specs.declared.RecordStats.{RecordStats}
 use Rattle.format.specs.declared.Decoded.{Decoded}
 use Rattle.format.specs.Calls.{EncodedOut}
+use Rattle.journal.specs.declared.JournalRead.{JournalRead}
+use Rattle.journal.specs.Journal.{ReadIn}
 
 -- the record that 13 words spell
 abbrev pub countersOf : List ℕ → Counters
@@ -70,3 +72,20 @@ encodedSaid x = said (answerNumber (x .result .answer)) (x .result .len ∷ stat
 -- a decoded record's id, the place and the length of its items, its figures, and its hash
 unfoldable pub decodedSaid : Decoded → Said
 decodedSaid d = said (answerNumber (d .answer)) (d .id ∷ d .«items_at» ∷ d .«items_len» ∷ statWords (d .stats)) (d .hash)
+
+-- what reading a journal gives: how it ended, the nursery's words with the records applied and the place reached, and the tables
+pub record SaidRead : Type 0 where
+  pub ended : ℕ
+  pub words : List ℕ
+  pub entries : List ℕ
+  pub waiting : List ℕ
+  pub cells : List ℕ
+
+abbrev pub saidRead : ℕ → List ℕ → List ℕ → List ℕ → List ℕ → SaidRead
+saidRead r w es ws cs = record { ended = r; words = w; entries = es; waiting = ws; cells = cs }
+
+abbrev pub readWords : JournalRead → List ℕ
+readWords j = j .nursery .entries ∷ j .nursery .waiting ∷ j .nursery .«cell_bytes» ∷ j .applied ∷ j .place ∷ []
+
+unfoldable pub journalSaid : ReadIn → SaidRead
+journalSaid x = saidRead (answerNumber (x .result .ended)) (readWords (x .result)) (x .entries) (x .waiting) (x .cells)

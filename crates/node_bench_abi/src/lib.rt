@@ -15,7 +15,8 @@ ghost use Rattle.counters.specs.Maintenance.{standard};
 ghost use Rattle.counters.specs.Calls.{getCall, batchCall};
 ghost use Rattle.snapshot.specs.Calls.{serializeCall, deserializeCall};
 ghost use Rattle.format.specs.Calls.{encodeCall, decodeCall};
-ghost use Rattle.node_bench_abi.specs.Words.{countersOf, wordsOf, said, gotSaid, changedSaid, writtenSaid, encodedSaid, decodedSaid};
+ghost use Rattle.journal.specs.Journal.{readCall};
+ghost use Rattle.node_bench_abi.specs.Words.{countersOf, wordsOf, said, gotSaid, changedSaid, writtenSaid, encodedSaid, decodedSaid, saidRead, journalSaid};
 
 fn counters_of(w: &[u64; 13]) -> Counters
     ensures { λ r. ⌜ r ≡ countersOf (now (w .entry)) ⌝ }
@@ -208,5 +209,29 @@ pub extern "C" fn selvaigo_decode_record(
     let h = x.hash;
     *stated = h;
     let a = x.answer;
+    a.number()
+}
+
+// A journal, read into an empty nursery in tables of any content.
+#[no_mangle]
+pub extern "C" fn selvaigo_read_journal(
+    journal: &[u8],
+    entries: &mut [u64],
+    waiting: &mut [u64],
+    cells: &mut [u8],
+    figures: &mut [u64; 5],
+) -> u8
+    ensures { λ r. ⌜ saidRead r (now (figures .exit)) (now (entries .exit)) (now (waiting .exit)) (now (cells .exit)) ≡ journalSaid (readCall hash (now (journal .entry)) (now (entries .entry)) (now (waiting .entry)) (now (cells .entry))) ⌝ }
+{
+    let x = journal_read::read_journal(journal, entries, waiting, cells);
+    let q = x.nursery;
+    *figures = [
+        q.entries as u64,
+        q.waiting as u64,
+        q.cell_bytes as u64,
+        x.applied as u64,
+        x.place as u64,
+    ];
+    let a = x.ended;
     a.number()
 }
