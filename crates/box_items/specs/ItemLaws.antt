@@ -1,0 +1,166 @@
+-- What an item of each kind stands for by the tests that the code makes, and what running it gives by what the call gave.
+-- Assumes nothing.
+use mathlib.Core.Path.{_≡_, refl, sym, ap, _∙_}
+use mathlib.Core.Bool.{true, false}
+use mathlib.Core.Option.{Option, none, some}
+use mathlib.Core.List.{List}
+use Prim.Native.Nat.{ℕ, zero, suc, _+_, _-_, _*_, _/_, _%_, _≤_, _<_}
+use native.Mathlib.Nat.{mul-suc}
+use native.Mathlib.Omega.{arith}
+use lib.ListN.{length, take, drop, getD, length-drop}
+use lib.Seq.{paste, take-all, drop-drop}
+use borrow.Author.Tests.{le-leb, lt-leb, eq-eqb, ne-eqb}
+use Rattle.base.specs.Logic.{zeros}
+use Rattle.base.specs.Bytes.{unle}
+use Rattle.slices.specs.Laws.{part-paste}
+use Rattle.counters.specs.declared.Counters.{Counters}
+use Rattle.counters.specs.declared.Allocated.{Allocated}
+use Rattle.counters.specs.declared.Applied.{Applied}
+use Rattle.counters.specs.Calls as counters
+use Rattle.cell_nursery.specs.declared.Nursery.{Nursery}
+use Rattle.cell_nursery.specs.declared.Committed.{Committed}
+use Rattle.cell_nursery.specs.declared.Drained.{Drained}
+use Rattle.cell_nursery.specs.Drain.{promotionDelay}
+use Rattle.cell_nursery.specs.Calls as nursery
+use Rattle.delta_items.specs.Walk.{insertsLen, itemsFit, deltaIn}
+use Rattle.delta_items.specs.WalkLaws.{delta-whole, delta-none, length-inserts, length-hashes}
+use Rattle.record_read.specs.DecodeLaws.{payload-short, payload-past, payload-items}
+use Rattle.node_box.specs.Box.{Call, allocate, batch, delta, drain, step, withCounters, withNursery}
+use Rattle.box_items.specs.declared.Ran.{Ran}
+use Rattle.box_items.specs.Items.{allocateItem, wordsIn, batchItem, deltaItem, drainRoom, drainItem, callOf, Ended, boxOf, ended, badItem, ran}
+
+-- ---- the words of a body
+
+pub length-words : (n : ℕ) (bs : List ℕ) → length (wordsIn n bs) ≡ n
+unfolding wordsIn
+length-words zero bs = refl
+length-words (suc n) bs = ap suc (length-words n (drop 8 bs))
+
+pub words-at : (n i : ℕ) (bs : List ℕ) → i < n → getD (wordsIn n bs) i 0 ≡ unle (take 8 (drop (8 * i) bs))
+unfolding wordsIn
+words-at zero i bs h = absurd (omega arith)
+words-at (suc n) zero bs h = refl
+words-at (suc n) (suc i) bs h =
+    let m = mul-suc 8 i in
+    let e : 8 + 8 * i ≡ 8 * suc i = omega arith in
+    words-at n i (drop 8 bs) (omega arith) ∙ rw (drop-drop (8 * i) 8 bs, e)
+
+-- the words that were read to the start of a slice are lent on
+pub words-lent : (w bs : List ℕ) (n : ℕ) → take (n - 0) (drop 0 (paste w 0 (wordsIn n bs) n)) ≡ wordsIn n bs
+words-lent w bs n =
+    let z : n - 0 ≡ n = omega arith in
+    let l = length-words n bs in
+    ap (λ (k : ℕ). take k (drop 0 (paste w 0 (wordsIn n bs) n))) z
+    ∙ part-paste w 0 (wordsIn n bs) n (omega arith) (omega arith)
+    ∙ take-all n (wordsIn n bs) (omega arith)
+
+-- ---- what follows a payload's 16 bytes, as it is lent on
+
+abbrev pub behind : List ℕ → List ℕ
+behind body = take (length body - 16) (drop 16 body)
+
+behind-all : (body : List ℕ) → behind body ≡ drop 16 body
+behind-all body = take-all (length body - 16) (drop 16 body) (omega (arith, length-drop 16 body))
+
+-- ---- bad items
+
+module _ (body : List ℕ) where
+  pub allocate-bad : (length body ≡ 0 → ⊥) → allocateItem body ≡ none
+  unfolding allocateItem
+  allocate-bad h = rw (ne-eqb (length body) 0 h)
+
+  pub batch-bad : (length body % 24 ≡ 0 → ⊥) → batchItem body ≡ none
+  unfolding batchItem
+  batch-bad h = rw (ne-eqb (length body % 24) 0 h)
+
+  pub drain-bad : (length body ≡ 4 → ⊥) → drainItem body ≡ none
+  unfolding drainItem
+  drain-bad h = rw (ne-eqb (length body) 4 h)
+
+  pub delta-short : length body < 16 → deltaItem body ≡ none
+  unfolding deltaItem
+  delta-short h = rw (payload-short body h)
+
+  -- x inserts and y removes are stated
+  module _ (long : 16 ≤ length body) (x y : ℕ) (inserts : x ≡ unle (take 4 (drop 8 body))) (removes : y ≡ unle (take 4 (drop 12 body))) where
+    same-fit : itemsFit 2 x y (drop 16 body) ≡ itemsFit 2 x y (behind body)
+    same-fit = ap (λ (l : List ℕ). itemsFit 2 x y l) (sym (behind-all body))
+
+    pub delta-past : itemsFit 2 x y (behind body) ≡ false → deltaItem body ≡ none
+    unfolding deltaItem
+    delta-past e = rw (payload-past body long (rw (← inserts, ← removes) (delta-none 2 x y (drop 16 body) (omega arith) (same-fit ∙ e))))
+
+    pub delta-good : itemsFit 2 x y (behind body) ≡ true → deltaItem body ≡ some (delta (unle (take 8 body)) false x y (drop 16 body))
+    unfolding deltaItem deltaIn
+    delta-good e =
+        rw (
+          payload-items body long (deltaIn 2 x y (drop 16 body)) (rw (← inserts, ← removes) (delta-whole 2 x y (drop 16 body) (same-fit ∙ e))),
+          length-inserts 2 x (drop 16 body),
+          length-hashes y (drop (insertsLen 2 x (drop 16 body)) (drop 16 body)),
+        )
+
+-- ---- the call of each kind
+
+module _ (kind : ℕ) (body : List ℕ) where
+  pub call-long : 32768 < length body → callOf kind body ≡ none
+  unfolding callOf
+  call-long h = rw (lt-leb (length body) 32768 h)
+
+  module _ (fits : length body ≤ 32768) where
+    pub call-allocate : kind ≡ 1 → callOf kind body ≡ allocateItem body
+    unfolding callOf
+    call-allocate e = rw (le-leb (length body) 32768 fits, e)
+
+    pub call-batch : kind ≡ 2 → callOf kind body ≡ batchItem body
+    unfolding callOf
+    call-batch e = rw (le-leb (length body) 32768 fits, e)
+
+    pub call-delta : kind ≡ 3 → callOf kind body ≡ deltaItem body
+    unfolding callOf
+    call-delta e = rw (le-leb (length body) 32768 fits, e)
+
+    pub call-drain : kind ≡ 4 → callOf kind body ≡ drainItem body
+    unfolding callOf
+    call-drain e = rw (le-leb (length body) 32768 fits, e)
+
+    pub call-other : (kind ≡ 1 → ⊥) → (kind ≡ 2 → ⊥) → (kind ≡ 3 → ⊥) → (kind ≡ 4 → ⊥) → callOf kind body ≡ none
+    unfolding callOf
+    call-other a b c d = rw (le-leb (length body) 32768 fits, ne-eqb kind 1 a, ne-eqb kind 2 b, ne-eqb kind 3 c, ne-eqb kind 4 d)
+
+-- ---- what running an item gives
+
+module _ (c : Counters) (n : Nursery) (t es ws cs : List ℕ) where
+  pub bad-ran : (r : Ran) (item : Option Call) → r ≡ badItem c n → item ≡ none → ended r t es ws cs ≡ ran (boxOf c t n es ws cs) item
+  unfolding ran
+  bad-ran r item e f = ap (λ (x : Ran). ended x t es ws cs) e ∙ ap (λ (o : Option Call). ran (boxOf c t n es ws cs) o) (sym f)
+
+  module _ (body : List ℕ) where
+    pub allocate-ran : (a : Allocated) → a ≡ counters.allocCall c → length body ≡ 0
+        → ended (record { good = true; answer = a .answer; counters = a .counters; nursery = n }) t es ws cs ≡ ran (boxOf c t n es ws cs) (allocateItem body)
+    unfolding allocateItem ran step withCounters
+    allocate-ran a e h = rw (eq-eqb (length body) 0 h, e)
+
+    pub batch-ran : (a : Applied) (u : List ℕ) → counters.changed a u ≡ counters.batchCall c t (wordsIn (length body / 8) body) → length body % 24 ≡ 0
+        → ended (record { good = true; answer = a .answer; counters = a .counters; nursery = n }) u es ws cs ≡ ran (boxOf c t n es ws cs) (batchItem body)
+    unfolding batchItem ran step withCounters
+    batch-ran a u e h =
+        rw (eq-eqb (length body % 24) 0 h)
+        (ap (λ (x : counters.Changed). ended (record { good = true; answer = x .result .answer; counters = x .result .counters; nursery = n }) (x .table) es ws cs) e)
+
+    pub delta-ran : (x y : ℕ) (a : Committed) (e w s : List ℕ) → nursery.changed a e w s ≡ nursery.deltaCall n es ws cs false x y (behind body)
+        → 16 ≤ length body → x ≡ unle (take 4 (drop 8 body)) → y ≡ unle (take 4 (drop 12 body)) → itemsFit 2 x y (behind body) ≡ true
+        → ended (record { good = true; answer = a .answer; counters = c; nursery = a .nursery }) t e w s ≡ ran (boxOf c t n es ws cs) (deltaItem body)
+    unfolding ran step withNursery
+    delta-ran x y a e w s q long p r fit =
+        rw (delta-good body long x y p r fit)
+        (ap (λ (z : nursery.Changed). ended (record { good = true; answer = z .result .answer; counters = c; nursery = z .result .nursery }) t (z .entries) (z .waiting) (z .cells)) (q ∙ ap (λ (l : List ℕ). nursery.deltaCall n es ws cs false x y l) (behind-all body)))
+
+    -- the output has room for a drain's
+    pub drain-ran : (round : ℕ) (a : Drained) (o w : List ℕ) → nursery.drainedAs a o w ≡ nursery.drainCall promotionDelay n es ws cs round (zeros 27136)
+        → length body ≡ 4 → round ≡ unle (take 4 body)
+        → ended (record { good = true; answer = a .answer; counters = c; nursery = a .nursery }) t es w cs ≡ ran (boxOf c t n es ws cs) (drainItem body)
+    unfolding drainItem drainRoom ran step withNursery
+    drain-ran round a o w q h e =
+        let f : round ≡ unle body = e ∙ ap (λ (l : List ℕ). unle l) (take-all 4 body (omega arith)) in
+        rw (eq-eqb (length body) 4 h, ← f)
+        (ap (λ (z : nursery.DrainedOut). ended (record { good = true; answer = z .result .answer; counters = c; nursery = z .result .nursery }) t es (z .waiting) cs) q)

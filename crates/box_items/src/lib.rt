@@ -1,0 +1,219 @@
+// House items, as boxrun replays them: an item's header from its six bytes, the call that its kind and body stand for, run on a
+// box's records and lent tables, and the numbers of the line that is printed for it. The program above only reads and prints.
+use base::Answer;
+use base::Refusal;
+use byte_numbers::read_le16;
+use byte_numbers::read_le32;
+use byte_numbers::read_le64;
+use cell_nursery::Nursery;
+use counters::Counters;
+use delta_items::End;
+ghost use mathlib.Core.Path.{_≡_};
+ghost use mathlib.Core.List.{List};
+ghost use Prim.Native.Nat.{ℕ, _*_, _≤_};
+ghost use lib.ListN.{length, drop};
+ghost use lib.Seq.{paste};
+ghost use Rattle.delta_items.specs.Walk.{itemsFit};
+ghost use Rattle.box_items.specs.Items.{badItem, ended, boxOf, ran, wordsIn, allocateItem, batchItem, deltaItem, drainItem, callOf, headerIn, lineOf};
+
+// What an item's first six bytes say.
+pub struct Header {
+    pub len: u32,
+    pub kind: u16,
+}
+
+// What running an item returns: whether it stands for a call, the answer, and the box's records after it. A bad item's answer is 20.
+pub struct Ran {
+    pub good: bool,
+    pub answer: Answer,
+    pub counters: Counters,
+    pub nursery: Nursery,
+}
+
+// A printed line: the item's place and kind, the answer's number, and the next index and live total as they are then.
+pub struct Line {
+    pub place: u64,
+    pub kind: u16,
+    pub answer: u8,
+    pub next: u64,
+    pub live: u64,
+}
+
+// The two numbers of a header.
+pub fn header_of(bytes: &[u8; 6]) -> Header
+    ensures { λ r. ⌜ r ≡ headerIn (now (bytes .entry)) ⌝ }
+{
+    Header {
+        len: read_le32(bytes, 0),
+        kind: read_le16(bytes, 4),
+    }
+}
+
+// The numbers of an item's line.
+pub fn line_of(place: u64, kind: u16, answer: Answer, counters: Counters) -> Line
+    ensures { λ r. ⌜ r ≡ lineOf place kind answer counters ⌝ }
+{
+    Line {
+        place,
+        kind,
+        answer: answer.number(),
+        next: counters.next_idx.0,
+        live: counters.live_cells,
+    }
+}
+
+// An item that stands for no call: the records stay as they are.
+fn bad(counters: Counters, nursery: Nursery) -> Ran
+    ensures { λ r. ⌜ r ≡ badItem counters nursery ⌝ }
+{
+    Ran {
+        good: false,
+        answer: Answer::Refused(Refusal::Broken),
+        counters,
+        nursery,
+    }
+}
+
+// Kind 1. It is lent no table: whatever they hold, they stay so.
+fn run_allocate(counters: Counters, nursery: Nursery, body: &[u8]) -> Ran
+    ensures { λ r. ⌜ ((t es ws cs : List ℕ) → ended r t es ws cs ≡ ran (boxOf counters t nursery es ws cs) (allocateItem (now (body .entry)))) ⌝ }
+{
+    if body.len() != 0 {
+        return bad(counters, nursery);
+    }
+    let a = counter_table::alloc_idx(counters);
+    let answer = a.answer;
+    let next = a.counters;
+    Ran {
+        good: true,
+        answer,
+        counters: next,
+        nursery,
+    }
+}
+
+// The first n words of a body go to the start of `words`.
+fn read_words(body: &[u8], words: &mut [u64], n: usize)
+    requires { ⌜ (8 * n ≤ length (now body)) × (n ≤ length (now words)) ⌝ }
+    ensures { λ _. ⌜ now (words .exit) ≡ paste (now (words .entry)) 0 (wordsIn n (now (body .entry))) n ⌝ }
+{
+    let mut i = 0;
+    while i < n {
+        words[i] = read_le64(body, 8 * i);
+        i += 1;
+    }
+}
+
+// Kind 2. It is lent the counts alone.
+fn run_batch(counters: Counters, nursery: Nursery, t: &mut [u64], body: &[u8]) -> Ran
+    requires { ⌜ length (now body) ≤ 32768 ⌝ }
+    ensures { λ r. ⌜ ((es ws cs : List ℕ) → ended r (now (t .exit)) es ws cs ≡ ran (boxOf counters (now (t .entry)) nursery es ws cs) (batchItem (now (body .entry)))) ⌝ }
+{
+    if body.len() % 24 != 0 {
+        return bad(counters, nursery);
+    }
+    let n = body.len() / 8;
+    let mut words = [0u64; 4096];
+    read_words(body, &mut words, n);
+    let a = counter_batch::apply_batch(counters, t, &words[0..n]);
+    let answer = a.answer;
+    let next = a.counters;
+    Ran {
+        good: true,
+        answer,
+        counters: next,
+        nursery,
+    }
+}
+
+// Whether a payload's items stand whole behind its 16 bytes.
+fn items_fit(items: &[u8], inserts: u64, removes: u64) -> bool
+    ensures { λ r. ⌜ r ≡ itemsFit 2 inserts removes (now (items .entry)) ⌝ }
+{
+    let End::At(_) = delta_items::removes_at(items, false, inserts, removes) else {
+        return false;
+    };
+    true
+}
+
+// Kind 3. It is lent the nursery's tables.
+fn run_delta(
+    counters: Counters,
+    nursery: Nursery,
+    es: &mut [u64],
+    ws: &mut [u64],
+    cs: &mut [u8],
+    body: &[u8],
+) -> Ran
+    ensures { λ r. ⌜ ((t : List ℕ) → ended r t (now (es .exit)) (now (ws .exit)) (now (cs .exit)) ≡ ran (boxOf counters t nursery (now (es .entry)) (now (ws .entry)) (now (cs .entry))) (deltaItem (now (body .entry)))) ⌝ }
+{
+    if body.len() < 16 {
+        return bad(counters, nursery);
+    }
+    let inserts = read_le32(body, 8) as u64;
+    let removes = read_le32(body, 12) as u64;
+    if !items_fit(&body[16..], inserts, removes) {
+        return bad(counters, nursery);
+    }
+    let c = nursery_commit::apply_commit(nursery, es, ws, cs, false, inserts, removes, &body[16..]);
+    let answer = c.answer;
+    let next = c.nursery;
+    Ran {
+        good: true,
+        answer,
+        counters,
+        nursery: next,
+    }
+}
+
+// Kind 4. What is handed out goes to an output with room for all entries, and no further.
+fn run_drain(
+    counters: Counters,
+    nursery: Nursery,
+    es: &[u64],
+    ws: &mut [u64],
+    cs: &[u8],
+    body: &[u8],
+) -> Ran
+    ensures { λ r. ⌜ ((t : List ℕ) → ended r t (now (es .entry)) (now (ws .exit)) (now (cs .entry)) ≡ ran (boxOf counters t nursery (now (es .entry)) (now (ws .entry)) (now (cs .entry))) (drainItem (now (body .entry)))) ⌝ }
+{
+    if body.len() != 4 {
+        return bad(counters, nursery);
+    }
+    let round = read_le32(body, 0);
+    let mut out = [0u8; 27136];
+    let d = nursery_drain::drain_promotable(nursery, es, ws, cs, round, &mut out);
+    let answer = d.answer;
+    let next = d.nursery;
+    Ran {
+        good: true,
+        answer,
+        counters,
+        nursery: next,
+    }
+}
+
+// Runs the call of an item on a box, or does nothing where it is bad.
+pub fn run_item(
+    counters: Counters,
+    nursery: Nursery,
+    t: &mut [u64],
+    es: &mut [u64],
+    ws: &mut [u64],
+    cs: &mut [u8],
+    kind: u16,
+    body: &[u8],
+) -> Ran
+    ensures { λ r. ⌜ ended r (now (t .exit)) (now (es .exit)) (now (ws .exit)) (now (cs .exit)) ≡ ran (boxOf counters (now (t .entry)) nursery (now (es .entry)) (now (ws .entry)) (now (cs .entry))) (callOf kind (now (body .entry))) ⌝ }
+{
+    if 32768 < body.len() {
+        return bad(counters, nursery);
+    }
+    match kind {
+        1 => run_allocate(counters, nursery, body),
+        2 => run_batch(counters, nursery, t, body),
+        3 => run_delta(counters, nursery, es, ws, cs, body),
+        4 => run_drain(counters, nursery, es, ws, cs, body),
+        _ => bad(counters, nursery),
+    }
+}
