@@ -181,15 +181,18 @@ impl Run<'_> {
         let mut out = vec![0; snapshot.len()];
         let mut back = Counters::deserialize_trusted(&snapshot, self.pool.clone()).unwrap();
         same_snapshot(&mut back, &state, &table, &mut out);
-        let mut read = vec![1; table.len()];
-        let mut came = [0; 13];
-        self.measure(
-            &what,
-            (1, 1),
-            &mut || came = black_box(port::deserialize_trusted(&snapshot, &mut read)),
-            &mut || drop(black_box(Counters::deserialize_trusted(&snapshot, self.pool.clone()).unwrap())),
-        );
-        assert!(came == state && read == table, "the port reads another state");
+        // The original's large counts come in no order, the port's by ascending index.
+        for (order, bytes) in [("", &snapshot[..]), (", ascending", &out[..])] {
+            let mut read = vec![1; table.len()];
+            let mut came = [0; 13];
+            self.measure(
+                &format!("{what}{order}"),
+                (1, 1),
+                &mut || came = black_box(port::deserialize_trusted(bytes, &mut read)),
+                &mut || drop(black_box(Counters::deserialize_trusted(bytes, self.pool.clone()).unwrap())),
+            );
+            assert!(came == state && read == table, "the port reads another state");
+        }
     }
 
     fn record(&self, inserts: u64) {
