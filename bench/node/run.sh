@@ -3,7 +3,7 @@
 # The original's hash is built twice: portable, and the best that the machine has.
 #
 #   TYCHO_SRC=DIR run.sh [WORD ..]     a line for each comparison whose name has one of the words, the ratio of the speeds last
-#                                      (1: as fast as the original). Reading a million counts takes minutes.
+#                                      (1: as fast as the original).
 #
 # Needs Debian's packages librust-{ahash,anyhow,blake3,bytes,dashmap,hashbrown,libc,parking-lot,rayon,thiserror,tracing}-dev and
 # libroaring-dev, and Rust 1.95.
