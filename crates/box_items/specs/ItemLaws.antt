@@ -25,9 +25,9 @@ use Rattle.cell_nursery.specs.Calls as nursery
 use Rattle.delta_items.specs.Walk.{insertsLen, itemsFit, deltaIn}
 use Rattle.delta_items.specs.WalkLaws.{delta-whole, delta-none, length-inserts, length-hashes}
 use Rattle.record_read.specs.DecodeLaws.{payload-short, payload-past, payload-items}
-use Rattle.node_box.specs.Box.{Call, allocate, batch, delta, drain, step, withCounters, withNursery}
+use Rattle.node_box.specs.Box.{Call, delta, step, withCounters, withNursery}
 use Rattle.box_items.specs.declared.Ran.{Ran}
-use Rattle.box_items.specs.Items.{allocateItem, wordsIn, batchItem, deltaItem, drainRoom, drainItem, callOf, Ended, boxOf, ended, badItem, ran}
+use Rattle.box_items.specs.Items.{allocateItem, wordsIn, batchItem, deltaItem, drainRoom, drainItem, callOf, boxOf, ended, badItem, ran}
 
 -- ---- the words of a body
 
@@ -162,5 +162,6 @@ module _ (c : Counters) (n : Nursery) (t es ws cs : List ℕ) where
     unfolding drainItem drainRoom ran step withNursery
     drain-ran round a o w q h e =
         let f : round ≡ unle body = e ∙ ap (λ (l : List ℕ). unle l) (take-all 4 body (omega arith)) in
-        rw (eq-eqb (length body) 4 h, ← f)
-        (ap (λ (z : nursery.DrainedOut). ended (record { good = true; answer = z .result .answer; counters = c; nursery = z .result .nursery }) t es (z .waiting) cs) q)
+        let r = q ∙ ap (λ (k : ℕ). nursery.drainCall promotionDelay n es ws cs k (zeros 27136)) f in
+        rw (eq-eqb (length body) 4 h)
+        (ap (λ (z : nursery.DrainedOut). ended (record { good = true; answer = z .result .answer; counters = c; nursery = z .result .nursery }) t es (z .waiting) cs) r)

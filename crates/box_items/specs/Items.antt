@@ -7,7 +7,7 @@ use mathlib.Core.List.{List, [], _∷_}
 use lib.ListN.{length, take, drop}
 use lib.Dec.{leb, eqb}
 use Rattle.base.specs.Logic.{pick, zeros}
-use Rattle.base.specs.Maybe.{_>>=_, _>>_, maybe, ensure}
+use Rattle.base.specs.Maybe.{_>>=_, _>>_, ensure}
 use Rattle.base.specs.Bytes.{unle, cut}
 use Rattle.base.specs.Answers.{answerNumber}
 use Rattle.base.specs.declared.Answer.{Answer}

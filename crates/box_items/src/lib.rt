@@ -11,7 +11,7 @@ use delta_items::End;
 ghost use mathlib.Core.Path.{_≡_};
 ghost use mathlib.Core.List.{List};
 ghost use Prim.Native.Nat.{ℕ, _*_, _≤_};
-ghost use lib.ListN.{length, drop};
+ghost use lib.ListN.{length};
 ghost use lib.Seq.{paste};
 ghost use Rattle.delta_items.specs.Walk.{itemsFit};
 ghost use Rattle.box_items.specs.Items.{badItem, ended, boxOf, ran, wordsIn, allocateItem, batchItem, deltaItem, drainItem, callOf, headerIn, lineOf};

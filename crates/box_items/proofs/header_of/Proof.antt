@@ -1,7 +1,6 @@
 -- `box_items::header_of`.
 -- Assumes nothing.
 use borrow.Author.Needs.{needs}
-use borrow.Author.Needs.{needs}
 use Rattle.box_items.proofs.header_of.Statement.{statement}
 use Rattle.box_items.proofs.header_of.Tie as tie
 

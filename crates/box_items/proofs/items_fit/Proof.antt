@@ -1,7 +1,6 @@
 -- `box_items::items_fit`.
 -- Assumes nothing.
 use borrow.Author.Needs.{needs}
-use borrow.Author.Needs.{needs}
 use mathlib.Core.Path.{sym, _∙_}
 use Rattle.delta_items.specs.WalkLaws.{removes-at, removes-past}
 use Rattle.box_items.proofs.items_fit.Statement.{statement}

@@ -1,7 +1,6 @@
 -- `box_items::line_of`.
 -- Assumes nothing.
 use borrow.Author.Needs.{needs}
-use borrow.Author.Needs.{needs}
 use Rattle.box_items.proofs.line_of.Statement.{statement}
 use Rattle.box_items.proofs.line_of.Tie as tie
 

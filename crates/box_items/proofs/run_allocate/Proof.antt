@@ -1,7 +1,6 @@
 -- `box_items::run_allocate`.
 -- Assumes nothing.
 use borrow.Author.Needs.{needs}
-use borrow.Author.Needs.{needs}
 use native.Mathlib.Omega.{arith}
 use Rattle.box_items.specs.Items.{allocateItem}
 use Rattle.box_items.specs.ItemLaws.{allocate-bad, bad-ran, allocate-ran}

@@ -7,7 +7,7 @@ use mathlib.Core.List.{List}
 use Prim.Native.Nat.{ℕ, _/_, _-_}
 use lib.ListN.{length, take, drop}
 use Rattle.counters.specs.Calls.{batchCall}
-use Rattle.box_items.specs.Items.{batchItem, wordsIn}
+use Rattle.box_items.specs.Items.{batchItem}
 use Rattle.box_items.specs.ItemLaws.{words-lent, batch-bad, bad-ran, batch-ran}
 use Rattle.box_items.proofs.run_batch.Statement.{statement}
 use Rattle.box_items.proofs.run_batch.Tie as tie

@@ -1,7 +1,6 @@
 -- `box_items::run_drain`.
 -- Assumes nothing.
 use borrow.Author.Needs.{needs}
-use borrow.Author.Needs.{needs}
 use native.Mathlib.Omega.{arith}
 use Rattle.box_items.specs.Items.{drainItem}
 use Rattle.box_items.specs.ItemLaws.{drain-bad, bad-ran, drain-ran}
