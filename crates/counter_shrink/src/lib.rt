@@ -104,7 +104,7 @@ pub fn adjust_shrink_threshold(
 }
 
 // How many of the first n counts are in set k: a pass over the table.
-pub fn members(t: &[u64], n: usize, k: u32) -> u64
+fn members(t: &[u64], n: usize, k: u32) -> u64
     requires { ⌜ n * 2 ≤ length (now t) ⌝ }
     ensures { λ r. ⌜ r ≡ length (counts.members k (rowsOf countRow n (now (t .entry)))) ⌝ }
 {

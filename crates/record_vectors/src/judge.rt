@@ -6,7 +6,7 @@ use libc::STDOUT_FILENO;
 use record_read::decode_record;
 use record_write::encode_record;
 
-pub fn say(text: &[u8]) {
+pub(crate) fn say(text: &[u8]) {
     io::write_all(STDOUT_FILENO, text);
 }
 
@@ -15,7 +15,7 @@ fn say_number(before: &[u8], n: u64) {
     io::print_decimal(STDOUT_FILENO, n);
 }
 
-pub fn verdict(agrees: bool) {
+pub(crate) fn verdict(agrees: bool) {
     if agrees {
         say(b": agrees\n");
     } else {
@@ -51,7 +51,7 @@ fn figures_agree(stats: RecordStats, wanted: &[u8]) -> bool {
 }
 
 // The call has the id, the two list lengths, and the items with their cells' lengths in 4 bytes.
-pub fn encodes(call: &[u8], wanted: &[u8], record: &[u8], out: &mut [u8]) -> bool {
+pub(crate) fn encodes(call: &[u8], wanted: &[u8], record: &[u8], out: &mut [u8]) -> bool {
     let n = call.len();
     if n < 24 {
         return false;
@@ -87,7 +87,7 @@ fn parts_agree(hash: [u8; 32], at: usize, len: usize, payload: u64, record: &[u8
     at == 56 && len as u64 == payload - 16 && equal(&hash, &record[0..32])
 }
 
-pub fn decodes(record: &[u8], wanted: &[u8]) -> bool {
+pub(crate) fn decodes(record: &[u8], wanted: &[u8]) -> bool {
     let d = decode_record(record);
     let answer = d.answer;
     let number = answer.number();
@@ -105,7 +105,7 @@ pub fn decodes(record: &[u8], wanted: &[u8]) -> bool {
 }
 
 // Whether the decoded items, encoded again as they lie, give the record again.
-pub fn encodes_again(record: &[u8], out: &mut [u8]) -> bool {
+pub(crate) fn encodes_again(record: &[u8], out: &mut [u8]) -> bool {
     let d = decode_record(record);
     let n = record.len();
     if n < 56 {

@@ -7,9 +7,9 @@ use snapshot_read::deserialize_trusted;
 use snapshot_write::serialize;
 
 // What each word of a table is before the call.
-pub const BEFORE: u64 = 7;
+pub(crate) const BEFORE: u64 = 7;
 
-pub fn say(text: &[u8]) {
+pub(crate) fn say(text: &[u8]) {
     io::write_all(STDOUT_FILENO, text);
 }
 
@@ -18,7 +18,7 @@ fn say_number(before: &[u8], n: u64) {
     io::print_decimal(STDOUT_FILENO, n);
 }
 
-pub fn verdict(agrees: bool) {
+pub(crate) fn verdict(agrees: bool) {
     if agrees {
         say(b": agrees\n");
     } else {
@@ -81,7 +81,13 @@ fn written_agrees(c: Counters, t: &[u64], again: &[u8], out: &mut [u8]) -> bool 
 }
 
 // A refusal leaves the table as it was.
-pub fn reads(snapshot: &[u8], wanted: &[u8], again: &[u8], t: &mut [u64], out: &mut [u8]) -> bool {
+pub(crate) fn reads(
+    snapshot: &[u8],
+    wanted: &[u8],
+    again: &[u8],
+    t: &mut [u64],
+    out: &mut [u8],
+) -> bool {
     let a = deserialize_trusted(snapshot, t);
     let answer = a.answer;
     let number = answer.number();
