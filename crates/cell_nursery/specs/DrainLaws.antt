@@ -57,7 +57,7 @@ module _ (delay round : ℕ) where
     due-all-rest (w ∷ ws) = rw (lt-leb (w .born + delay) round (omega arith)) (ap (λ (l : List Waiting). w ∷ l) (due-all-rest ws))
 
 -- a waiting row names the entry of its hash, where the rounds agree
-named-above : (w : Waiting) (lo : ℕ) (es : List Entry) → w .hash < lo → ascendingFrom lo (map (λ e. e .hash) es) ≡ true → named es w ≡ []
+pub named-above : (w : Waiting) (lo : ℕ) (es : List Entry) → w .hash < lo → ascendingFrom lo (map (λ e. e .hash) es) ≡ true → named es w ≡ []
 unfolding named keep
 named-above w lo [] h o = refl
 named-above w lo (e ∷ es) h o =

@@ -29,19 +29,19 @@ use Rattle.format.specs.Payload.{payloadBytes}
 use Rattle.format.specs.RecordLaws.{Fits}
 
 -- ---- a claim of what is given, if something is
-data Gives {A : Type 0} (P : A → Type 0) : Option A → Type 0 where
+pub data Gives {A : Type 0} (P : A → Type 0) : Option A → Type 0 where
   nothing : Gives P none
   gives : {a : A} → P a → Gives P (some a)
 
-gives-bind : {A B : Type 0} {P : A → Type 0} {Q : B → Type 0} {o : Option A} {f : A → Option B} → Gives P o → ((a : A) → P a → Gives Q (f a)) → Gives Q (o >>= f)
+pub gives-bind : {A B : Type 0} {P : A → Type 0} {Q : B → Type 0} {o : Option A} {f : A → Option B} → Gives P o → ((a : A) → P a → Gives Q (f a)) → Gives Q (o >>= f)
 gives-bind nothing h = nothing
 gives-bind (gives {a = a} p) h = h a p
 
-gives-ensure : {B : Type 0} {Q : B → Type 0} (t : Bool) {o : Option B} → (t ≡ true → Gives Q o) → Gives Q (ensure t then o)
+pub gives-ensure : {B : Type 0} {Q : B → Type 0} (t : Bool) {o : Option B} → (t ≡ true → Gives Q o) → Gives Q (ensure t then o)
 gives-ensure true h = h refl
 gives-ensure false h = nothing
 
-given : {A : Type 0} {P : A → Type 0} {o : Option A} {a : A} → Gives P o → o ≡ some a → P a
+pub given : {A : Type 0} {P : A → Type 0} {o : Option A} {a : A} → Gives P o → o ≡ some a → P a
 given {P = P} {a = a} g e = go (rw e at g)
   where
     go : Gives P (some a) → P a
@@ -67,14 +67,14 @@ module _ {A : Type 0} (p : A → Bool) where
   all-reverse [] e = refl
   all-reverse (x ∷ xs) e = rw (reverse-cons x xs) (all-append p (reverse xs) (x ∷ []) (all-reverse xs (and-right (p x) (all p xs) e)) (all-one p x (and-left (p x) (all p xs) e)))
 
-cut-bytes : (n : ℕ) (bs : List ℕ) → Bytes bs → Gives (λ y. (length (y .0) ≡ n) × Bytes (y .0) × Bytes (y .1)) (cut n bs)
+pub cut-bytes : (n : ℕ) (bs : List ℕ) → Bytes bs → Gives (λ y. (length (y .0) ≡ n) × Bytes (y .0) × Bytes (y .1)) (cut n bs)
 unfolding cut
 cut-bytes n bs b =
     gives-ensure (leb n (length bs)) (λ e.
     let whole = rw (← take-append-drop n bs) at b in
     gives (length-take-le n bs (leb-true n (length bs) e), all-left (λ x. ltb x 256) (take n bs) (drop n bs) whole, all-right (λ x. ltb x 256) (take n bs) (drop n bs) whole))
 
-le-bytes : (k : ℕ) (bs : List ℕ) → Bytes bs → Gives (λ y. (y .0 < 256 ^ k) × Bytes (y .1)) (readLe k bs)
+pub le-bytes : (k : ℕ) (bs : List ℕ) → Bytes bs → Gives (λ y. (y .0 < 256 ^ k) × Bytes (y .1)) (readLe k bs)
 unfolding readLe
 le-bytes k bs b = gives-bind (cut-bytes k bs b) (λ y p. gives (rw (p .0) at (number-below 256 (y .0) (p .1)), p .2))
 

@@ -1,0 +1,100 @@
+-- In a run of house items no output is ever too short: a drain is always taken, and no other item writes one.
+-- Assumes nothing.
+use mathlib.Core.Path.{_≡_, refl, sym, ap, _∙_}
+use mathlib.Core.Bool.{Bool, true, false, not, true≢false}
+use mathlib.Core.Option.{Option, none, some}
+use mathlib.Core.List.{List, [], _∷_}
+use Prim.Native.Nat.{ℕ, zero, suc, _+_, _*_}
+use native.Mathlib.Omega.{arith}
+use lib.ListN.{length, drop, length-replicate}
+use lib.Dec.{leb, eqb}
+use borrow.Author.Tests.{eqb-true}
+use Rattle.base.specs.Logic.{pick, all, any, elem, zeros}
+use Rattle.base.specs.Laws.{and-both}
+use Rattle.base.specs.Answers.{answerNumber, numberOf}
+use Rattle.base.specs.declared.Answer.{Answer}
+use Rattle.base.specs.declared.Answer.the-variants.{Taken, Refused}
+use Rattle.base.specs.declared.Refusal.the-variants.{OutputFull, Broken}
+use Rattle.journal_laws.specs.DeltaLaws.{Bytes, Gives, nothing, gives}
+use Rattle.node_box.specs.Box.{Box, Call, allocate, batch, delta, drain, made, step, run}
+use Rattle.node_box.specs.Demand.{start, end}
+use Rattle.demand3.specs.Holding.{Sizes, Holding, holding-step, holding}
+use Rattle.demand3.specs.Refusals.{numbersOf, refusals}
+use Rattle.demand3.specs.DrainRoom.{drain-fits}
+use Rattle.box_items.specs.declared.Line.{Line}
+use Rattle.box_items.specs.Items.{headerIn, drainRoom, itemCall, ran, lineOf, runBox, linesFrom, lines}
+use Rattle.box_laws.specs.ItemCalls.{ItemCall, allocates, batches, changes, drains, Fit, drop-bytes, item-fits}
+
+-- a run's tables
+abbrev runSizes : Sizes
+runSizes = record { counts = 2 * 1024; entries = 8 * 256; waiting = 5 * 256; cells = 16384 }
+
+-- the number of an output that is too short
+abbrev pub tooShort : ℕ
+tooShort = numberOf OutputFull
+
+-- any other answer
+abbrev Roomy : Answer → Bool
+Roomy a = not (eqb (answerNumber a) tooShort)
+
+-- its number is none of a call's, if it isn't in their list
+not-among : (n : ℕ) (ns : List ℕ) → elem tooShort ns ≡ false → elem n ns ≡ true → eqb n tooShort ≡ false
+not-among n ns absent e = go (eqb n tooShort) refl
+  where
+    go : (b : Bool) → eqb n tooShort ≡ b → b ≡ false
+    go true t = absurd (true≢false (sym e ∙ ap (λ (m : ℕ). elem m ns) (eqb-true n tooShort t) ∙ absent))
+    go false t = refl
+
+module _ {b : Box} (h : Holding runSizes b) where
+  other-call : (x : Call) → elem tooShort (numbersOf x) ≡ false → Roomy (step b x .0) ≡ true
+  other-call x absent = go (step b x .0) refl
+    where
+      go : (a : Answer) → step b x .0 ≡ a → Roomy a ≡ true
+      go Taken e = refl
+      go (Refused q) e = ap not (not-among (numberOf q) (numbersOf x) absent (refusals (h .holds) .numbers x q e))
+
+  item-call : (x : Call) → ItemCall x → Roomy (step b x .0) ≡ true
+  unfolding any drainRoom
+  item-call x allocates = other-call allocate refl
+  item-call x (batches words) = other-call (batch words) refl
+  item-call x (changes id wide inserts removes items) = other-call (delta id wide inserts removes items) refl
+  item-call x (drains round) = rw (drain-fits (h .holds) round drainRoom (omega arith))
+
+-- a line's answer
+abbrev pub roomy : Line → Bool
+roomy l = not (eqb (l .answer) tooShort)
+
+lines-room : (fuel : ℕ) (b : Box) (place : ℕ) (bs : List ℕ) → Bytes bs → Holding runSizes b → all roomy (linesFrom fuel b place bs) ≡ true
+unfolding linesFrom all ran
+lines-room zero b place bs c h = refl
+lines-room (suc fuel) b place [] c h = refl
+lines-room (suc fuel) b place (x ∷ xs) c h =
+    go (λ y ys d k. lines-room fuel (step b y .1) (suc place) ys d k) (x ∷ xs) c (leb 6 (length (x ∷ xs))) (itemCall (x ∷ xs)) (item-fits (x ∷ xs) c)
+  where
+    go : ((y : Call) (ys : List ℕ) → Bytes ys → Holding runSizes (step b y .1) → all roomy (linesFrom fuel (step b y .1) (suc place) ys) ≡ true)
+        → (bs : List ℕ) → Bytes bs → (whole : Bool) (o : Option Call) → Gives Fit o
+        → all roomy
+        (pick whole (lineOf place (headerIn bs .kind) (ran b o .answer) (ran b o .box .counters) ∷ pick (ran b o .good) (linesFrom fuel (ran b o .box) (suc place) (drop (6 + headerIn bs .len) bs)) [])
+        (lineOf place 0 (Refused Broken) (b .counters) ∷ []))
+        ≡ true
+    go after bs c false o g = refl
+    go after bs c true none g = refl
+    go after bs c true (some y) (gives p) =
+        let n = 6 + headerIn bs .len in
+        and-both _ _ (item-call h y (p .1)) (after y (drop n bs) (drop-bytes n bs c) (holding-step y (p .0) h))
+
+-- a box as it is made
+made-holds : (k e w c : ℕ) → Holding (record { counts = k; entries = e; waiting = w; cells = c }) (made 0 (zeros k) (zeros e) (zeros w) (zeros c))
+unfolding end start run all
+made-holds k e w c =
+    rw (length-replicate {A = ℕ} k 0, length-replicate {A = ℕ} e 0, length-replicate {A = ℕ} w 0, length-replicate {A = ℕ} c 0) at
+    (holding (record { next = 0; counts = zeros k; entries = zeros e; waiting = zeros w; cells = zeros c; calls = [] }) (record { next = omega arith; calls = refl }))
+
+run-holds : Holding runSizes runBox
+unfolding runBox
+run-holds = made-holds (2 * 1024) (8 * 256) (5 * 256) 16384
+
+-- no line of a run has that answer
+pub output-room : (bs : List ℕ) → Bytes bs → all roomy (lines bs) ≡ true
+unfolding lines
+output-room bs c = lines-room (length bs) runBox 0 bs c run-holds
