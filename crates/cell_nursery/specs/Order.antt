@@ -1,30 +1,42 @@
 -- The order of the nursery's refusals and the bound of each, fixed by evaluation.
 -- Of two neighbours in an order: the smallest input that meets both conditions, and the number that is given.
 -- Of each refusal: the smallest input that is given it, beside the nearest one that is not.
+-- Long cells are any bytes of a given length: written out they would take longer to evaluate than all the rest.
 -- A list over 2 ^ 32 - 1 items is too long to be evaluated.
 -- Assumes nothing.
-use mathlib.Core.Path.{_≡_, refl}
-use Prim.Native.Nat.{ℕ, _*_, _^_, _-_}
+use mathlib.Core.Path.{_≡_, refl, ap, _∙_}
+use Prim.Native.Nat.{ℕ, _+_, _*_, _^_, _-_}
+use native.Mathlib.Omega.{arith}
 use mathlib.Core.Bool.{true, false}
-use mathlib.Core.List.{List, [], _∷_, _++_}
-use lib.ListN.{length, take, replicate}
-use Rattle.base.specs.Logic.{flat, fold, zeros}
-use Rattle.base.specs.Bytes.{le32, le64}
-use Rattle.base.specs.Answers.{answerNumber, answerOf}
+use mathlib.Core.Option.{Option, some}
+use mathlib.Core.List.{List, [], _∷_, _++_, append-assoc}
+use lib.ListN.{length, take, replicate, drop-of-length-le}
+use lib.Seq.{take-all}
+use lib.Dec.{leb}
+use borrow.Author.Tests.{le-leb, ltb-true, eq-eqb}
+use Rattle.base.specs.Logic.{fold, zeros}
+use Rattle.base.specs.Bytes.{le32, le64, cut, readList}
+use Rattle.base.specs.Laws.{readLe-append}
+use Rattle.base.specs.Answers.{answerNumber, answerOf, orRefuse, _>>=_}
 use Rattle.base.specs.declared.Answer.the-variants.{Taken, Refused}
 use Rattle.base.specs.declared.Refusal.the-variants.{Present, OutputFull, Broken}
 use Rattle.cell_nursery.specs.declared.Nursery.{Nursery}
 use Rattle.cell_nursery.specs.Entries.{Entry, State, empty, hashBytes, insert, remove}
-use Rattle.cell_nursery.specs.Items.{itemBytes}
+use Rattle.cell_nursery.specs.Items.{Delta, itemBytes, readInsert, deltaOf}
+use Rattle.cell_nursery.specs.ItemLaws.{readHash-append}
 use Rattle.cell_nursery.specs.Delta.{applyDelta}
 use Rattle.cell_nursery.specs.Drain.{promotionDelay, drainBytes, listingBytes}
-use Rattle.cell_nursery.specs.Layout.{recordOf, entriesTable, waitingTable, cellsTable}
-use Rattle.cell_nursery.specs.Calls.{Changed, DrainedOut, deltaCall, drainCall, lookupCall, listingCall}
+use Rattle.cell_nursery.specs.Layout.{recordOf, entriesTable, waitingTable, cellsTable, roomOf}
+use Rattle.cell_nursery.specs.Calls.{Changed, DrainedOut, laidOut, onState, deltaCall, drainCall, lookupCall, listingCall}
 use Rattle.cell_nursery.specs.Open.{evaluation}
 
 -- an entry of a hash, born at a round, with a cell of zeros
 abbrev entry : ℕ → ℕ → ℕ → Entry
 entry h round len = record { hash = h; idx = 7; born = round; cell = zeros len }
+
+-- an entry of a hash, born at round 0, with a given cell
+abbrev holding : ℕ → List ℕ → Entry
+holding h c = record { hash = h; idx = 7; born = 0; cell = c }
 
 -- the entry of a hash, born at round 0, with an empty cell
 abbrev plain : ℕ → Entry
@@ -44,14 +56,12 @@ deltaOn s room bytes is rs =
     deltaCall (recordOf s) (entriesTable (8 * room) s) (waitingTable (5 * room) s) (cellsTable bytes s) false (length is) (length rs)
     (itemBytes (record { inserts = is; removes = rs }))
 
--- the same as a number; and of inserts with wide lengths
+-- the same as a number; and of one insert with a wide length, in tables with room for it and for no cell byte
 abbrev delta : State → ℕ → ℕ → List Entry → List ℕ → ℕ
 delta s room bytes is rs = answerNumber (deltaOn s room bytes is rs .result .answer)
 
-abbrev wide : State → ℕ → ℕ → List Entry → ℕ
-wide s room bytes is =
-    answerNumber (deltaCall (recordOf s) (entriesTable (8 * room) s) (waitingTable (5 * room) s) (cellsTable bytes s) true (length is) 0
-    (flat wideBytes is) .result .answer)
+abbrev wide : Entry → ℕ
+wide e = answerNumber (deltaCall (recordOf empty) (zeros 8) (zeros 5) [] true 1 0 (wideBytes e) .result .answer)
 
 -- the number that the operation itself gives on some inserts: quicker where a cell is long
 abbrev applied : State → ℕ → ℕ → List Entry → ℕ
@@ -85,14 +95,15 @@ listed = listingBytes (plain 1 ∷ [])
 pub record RefusalOrder : Type 0 where
   -- delta: 14, 12, 13
   -- an insert of a hash that is there, with a cell of 65,536 bytes
-  fourteen-before-twelve : applied one 1 0 (entry 1 0 65536 ∷ []) ≡ 14
+  fourteen-before-twelve : (c : List ℕ) → length c ≡ 65536 → applied one 1 0 (holding 1 c ∷ []) ≡ 14
   -- an insert of a hash that is there, and no room for it
   twelve-before-thirteen : delta one 1 0 (plain 1 ∷ []) [] ≡ 12
   -- each test is over the whole delta
-  fourteen-over-all : applied one 1 0 (plain 1 ∷ entry 2 0 65536 ∷ []) ≡ 14
+  fourteen-over-all : (c : List ℕ) → length c ≡ 65536 → applied one 1 0 (plain 1 ∷ holding 2 c ∷ []) ≡ 14
   twelve-over-all : delta empty 0 0 (plain 1 ∷ plain 1 ∷ []) [] ≡ 12
   -- 20 comes before all others: a word past the rows, and a cell of 65,536 bytes
-  broken-before-fourteen : answerNumber (deltaCall (recordOf empty) (3 ∷ []) [] [] true 1 0 (wideBytes (entry 1 0 65536)) .result .answer) ≡ 20
+  broken-before-fourteen : (c : List ℕ) → length c ≡ 65536
+      → answerNumber (deltaCall (recordOf empty) (3 ∷ []) [] [] true 1 0 (wideBytes (holding 1 c)) .result .answer) ≡ 20
   -- 15 comes last: the same word, and no output
   broken-before-output : answerNumber (drainCall promotionDelay (recordOf one) (entriesTable 8 one ++ 3 ∷ []) (waitingTable 5 one) [] 100 [] .result .answer) ≡ 20
   broken-before-listing : answerNumber (listingCall (recordOf one) (entriesTable 8 one ++ 3 ∷ []) [] [] .result .answer) ≡ 20
@@ -120,8 +131,8 @@ pub record RefusalBounds : Type 0 where
       (itemBytes (record { inserts = plain 2 ∷ []; removes = [] })) .result .answer)
       ≡ 0
   -- 14: a cell of 65,535 bytes, and of one more
-  long-cell : applied empty 1 65535 (entry 1 0 65535 ∷ []) ≡ 0
-  too-long-cell : wide empty 1 65536 (entry 1 0 65536 ∷ []) ≡ 14
+  long-cell : (c : List ℕ) → length c ≡ 65535 → applied empty 1 65535 (holding 1 c ∷ []) ≡ 0
+  too-long-cell : (c : List ℕ) → length c ≡ 65536 → wide (holding 1 c) ≡ 14
   -- 20: an insert of 45 bytes and a remove of 31 are no delta; bytes after the last item are ignored
   insert-short : items 8 5 0 1 0 (zeros 45) ≡ 20
   insert-whole : items 8 5 0 1 0 (zeros 46) ≡ 0
@@ -193,8 +204,8 @@ pub record BrokenTables : Type 0 where
   round-over : check (recordAt 1 1 1) (row 1 (2 ^ 32) 0 1) (wait 0 1) (9 ∷ []) ≡ 20
   waiting-round-over : check (recordAt 1 1 1) (row 1 0 0 1) (wait (2 ^ 32) 1) (9 ∷ []) ≡ 20
   -- a cell of 65,535 bytes, and of one more
-  length-fits : check (recordAt 1 1 65535) (row 1 0 0 65535) (wait 0 1) (zeros 65535) ≡ 0
-  length-over : check (recordAt 1 1 65536) (row 1 0 0 65536) (wait 0 1) (zeros 65536) ≡ 20
+  length-fits : (cs : List ℕ) → length cs ≡ 65535 → check (recordAt 1 1 65535) (row 1 0 0 65535) (wait 0 1) cs ≡ 0
+  length-over : (cs : List ℕ) → length cs ≡ 65536 → check (recordAt 1 1 65536) (row 1 0 0 65536) (wait 0 1) cs ≡ 20
   -- hashes that ascend, and that repeat
   ascending : check (recordAt 2 2 0) (row 1 0 0 0 ++ row 2 0 0 0) (wait 0 1 ++ wait 0 2) [] ≡ 0
   repeating : check (recordAt 2 2 0) (row 1 0 0 0 ++ row 1 0 0 0) (wait 0 1 ++ wait 0 2) [] ≡ 20
@@ -219,14 +230,34 @@ pub refusal-order : RefusalOrder
 unfolding evaluation
 refusal-order =
     record {
-      fourteen-before-twelve = refl;
+      fourteen-before-twelve = λ c h. rw h refl;
       twelve-before-thirteen = refl;
-      fourteen-over-all = refl;
+      fourteen-over-all = λ c h. rw h refl;
       twelve-over-all = refl;
-      broken-before-fourteen = refl;
+      broken-before-fourteen = λ c h. refl;
       broken-before-output = refl;
       broken-before-listing = refl;
     }
+
+-- a wide length is read back
+wide-read : (c : List ℕ) → length c ≡ 65536 → deltaOf 4 1 0 (wideBytes (holding 1 c)) ≡ some (record { inserts = holding 1 c ∷ []; removes = [] })
+unfolding deltaOf readList readInsert cut
+wide-read c h =
+    simp append-assoc
+    (rw (
+      readHash-append 1 (le64 7 ++ (le32 0 ++ (le32 (length c) ++ c))) (ltb-true 1 (2 ^ 256) refl),
+      readLe-append 8 7 (le32 0 ++ (le32 (length c) ++ c)) (omega arith),
+      readLe-append 4 0 (le32 (length c) ++ c) (omega arith),
+      readLe-append 4 (length c) c (omega arith),
+      le-leb (length c) (length c) (omega arith),
+      take-all (length c) c (omega arith),
+    ))
+
+too-long : (c : List ℕ) → length c ≡ 65536 → wide (holding 1 c) ≡ 14
+unfolding evaluation
+too-long c h =
+    ap (λ (d : Option Delta). answerNumber (laidOut (recordOf empty) (zeros 8) (zeros 5) [] (onState (recordOf empty) (zeros 8) (zeros 5) [] (λ s. orRefuse Broken d >>= applyDelta (roomOf (zeros 8) (zeros 5) []) s)) .result .answer)) (wide-read c h)
+    ∙ rw h refl
 
 pub refusal-bounds : RefusalBounds
 unfolding evaluation
@@ -244,8 +275,8 @@ refusal-bounds =
       not-full-cells = refl;
       full-before-removes = refl;
       freed = refl;
-      long-cell = refl;
-      too-long-cell = refl;
+      long-cell = λ c h. rw h refl;
+      too-long-cell = λ c h. too-long c h;
       insert-short = refl;
       insert-whole = refl;
       insert-and-more = refl;
@@ -265,6 +296,11 @@ refusal-bounds =
       lookup-broken = refl;
     }
 
+-- an entry with a cell of n bytes
+long-held : (n : ℕ) (cs : List ℕ) → leb n 65535 ≡ true → length cs ≡ n → check (recordAt 1 1 n) (row 1 0 0 n) (wait 0 1) cs ≡ 0
+unfolding evaluation
+long-held n cs b h = rw (b, h, drop-of-length-le cs {i = n} (omega (arith, h)), le-leb n n (omega arith), eq-eqb (0 + n) n (omega arith)) refl
+
 pub broken-tables : BrokenTables
 unfolding evaluation
 broken-tables =
@@ -276,8 +312,8 @@ broken-tables =
       round-fits = refl;
       round-over = refl;
       waiting-round-over = refl;
-      length-fits = refl;
-      length-over = refl;
+      length-fits = λ cs h. long-held 65535 cs refl h;
+      length-over = λ cs h. refl;
       ascending = refl;
       repeating = refl;
       rounds-arrived = refl;

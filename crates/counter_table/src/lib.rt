@@ -46,10 +46,10 @@ pub fn holds(c: Counters, t: &[u64]) -> bool
     ensures { λ r. ⌜ r ≡ layout.holds c (now (t .entry)) ⌝ }
 {
     let n = c.stored;
-    if !rows::holds_rows(t, 2, n) {
+    if !row_checks::holds_rows(t, 2, n) {
         return false;
     }
-    if !rows::ascend(t, 2, n) {
+    if !row_checks::ascend(t, 2, n) {
         return false;
     }
     all_sound(t, n, c.next_idx.0)
@@ -60,7 +60,7 @@ pub fn stored_at(t: &[u64], n: usize, idx: u64) -> u64
     requires { ⌜ InOrder n (now t) ⌝ }
     ensures { λ r. ⌜ r ≡ storedAt idx (rowsOf countRow n (now (t .entry))) ⌝ }
 {
-    let k = rows::find(t, 2, n, idx);
+    let k = row_search::find(t, 2, n, idx);
     if k < n {
         if t[k * 2] == idx {
             return t[k * 2 + 1];
@@ -75,7 +75,7 @@ pub fn set_count(t: &mut [u64], n: usize, idx: u64, new: u64) -> usize
     requires { ⌜ length (setCount idx new (rowsOf countRow n (now t))) * 2 ≤ length (now t) ⌝ }
     ensures { λ r. ⌜ (r ≡ length (setCount idx new (rowsOf countRow n (now (t .entry))))) × (now (t .exit) ≡ rows-table.tableOf countRow (length (now (t .entry))) (setCount idx new (rowsOf countRow n (now (t .entry))))) ⌝ }
 {
-    let k = rows::find(t, 2, n, idx);
+    let k = row_search::find(t, 2, n, idx);
     let at = k * 2;
     let end = n * 2;
     if k < n {
@@ -84,13 +84,13 @@ pub fn set_count(t: &mut [u64], n: usize, idx: u64, new: u64) -> usize
                 t[at + 1] = new;
                 return n;
             }
-            rows::remove_row(t, at, end, 2);
+            row_moves::remove_row(t, at, end, 2);
             return n - 1;
         }
     }
     if 2 <= new {
         let row = [idx, new];
-        rows::insert_row(t, at, end, &row);
+        row_moves::insert_row(t, at, end, &row);
         return n + 1;
     }
     n

@@ -28,7 +28,7 @@ fn due_rows(r: Nursery, ws: &[u64], round: u32) -> usize
     if round < PROMOTION_DELAY {
         return 0;
     }
-    rows::find(ws, 5, r.waiting, (round - PROMOTION_DELAY) as u64 + 1)
+    row_search::find(ws, 5, r.waiting, (round - PROMOTION_DELAY) as u64 + 1)
 }
 
 // The row of the entry that waiting row i names, or the number of entries where none has its hash and its round.
@@ -37,7 +37,7 @@ fn promoted_row(r: Nursery, es: &[u64], ws: &[u64], i: usize) -> usize
     ensures { λ k. ⌜ k ≡ promotedRow r (now (es .entry)) (waiterAtRow (now (ws .entry)) i) ⌝ }
 {
     let n = r.entries;
-    let k = nursery_table::find_hash(r, es, rows::wide_at(ws, i * 5 + 1));
+    let k = nursery_table::find_hash(r, es, row_search::wide_at(ws, i * 5 + 1));
     if k < n {
         if es[k * 8 + 5] == ws[i * 5] {
             return k;
@@ -137,7 +137,7 @@ pub fn drain_promotable_held(
         };
     }
     let len = write_rows(r, es, ws, cs, k, out);
-    rows::remove_row(ws, 0, r.waiting * 5, k * 5);
+    row_moves::remove_row(ws, 0, r.waiting * 5, k * 5);
     let waiting = r.waiting - k;
     Drained {
         answer: Answer::Taken,

@@ -23,7 +23,7 @@ pub fn write_head(es: &[u64], k: usize, out: &mut [u8], at: usize)
     requires { ⌜ (k * 8 + 8 ≤ length (now es)) × (at + 40 ≤ length (now out)) ⌝ }
     ensures { λ _. ⌜ now (out .exit) ≡ paste (now (out .entry)) at (headBytes (now (es .entry)) k) 40 ⌝ }
 {
-    hash_words::write_wide(out, at, rows::wide_at(es, k * 8));
+    hash_words::write_wide(out, at, row_search::wide_at(es, k * 8));
     byte_numbers::write_le64(out, at + 32, es[k * 8 + 4]);
 }
 

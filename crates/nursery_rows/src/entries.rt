@@ -34,7 +34,7 @@ pub fn is_at(t: &[u64], k: usize, n: usize, hash: Wide) -> bool
     if n <= k {
         return false;
     }
-    waiting::same(rows::wide_at(t, k * 8), hash)
+    waiting::same(row_search::wide_at(t, k * 8), hash)
 }
 
 // The cells of the rows from `from` to n lie d further on.
@@ -77,7 +77,7 @@ pub fn insert_entry(
 {
     places_up(t, k, n, len);
     let row = [hash.0, hash.1, hash.2, hash.3, idx, born, place, len];
-    rows::insert_row(t, k * 8, n * 8, &row);
+    row_moves::insert_row(t, k * 8, n * 8, &row);
 }
 
 // Row k of n goes, and the cells of those behind it lie its cell's length further back.
@@ -86,5 +86,5 @@ pub fn remove_entry(t: &mut [u64], k: usize, n: usize, len: u64)
     ensures { λ _. ⌜ now (t .exit) ≡ tableOf entryRow (length (now (t .entry))) (take k (rowsOf entryRow n (now (t .entry))) ++ map (earlier len) (drop (suc k) (rowsOf entryRow n (now (t .entry))))) ⌝ }
 {
     places_down(t, k + 1, n, len);
-    rows::remove_row(t, k * 8, n * 8, 8);
+    row_moves::remove_row(t, k * 8, n * 8, 8);
 }

@@ -19,9 +19,9 @@ pub fn insert_waiting(t: &mut [u64], n: usize, born: u64, hash: Wide)
     requires { ⌜ (born + 1 ≤ 4294967296) × (n * 5 + 5 ≤ length (now t)) × (sortedFrom 0 (keys firstWord 5 n (now t)) ≡ true) ⌝ }
     ensures { λ _. ⌜ now (t .exit) ≡ insertedAt (place (suc born) (keys firstWord 5 n (now (t .entry)))) n (waiterFor born hash) (now (t .entry)) ⌝ }
 {
-    let k = rows::find(t, 5, n, born + 1);
+    let k = row_search::find(t, 5, n, born + 1);
     let row = [born, hash.0, hash.1, hash.2, hash.3];
-    rows::insert_row(t, k * 5, n * 5, &row);
+    row_moves::insert_row(t, k * 5, n * 5, &row);
 }
 
 // Whether the two keys are the same.
@@ -45,7 +45,7 @@ fn keep_row(t: &mut [u64], i: usize, j: usize, hash: Wide) -> usize
     requires { ⌜ (j ≤ i) × (i * 5 + 5 ≤ length (now t)) ⌝ }
     ensures { λ r. ⌜ (r ≡ pick (other (keyOf hash) (waitingRow .dec (drop (i * 5) (now (t .entry))))) (j + 1) j) × (now (t .exit) ≡ pick (other (keyOf hash) (waitingRow .dec (drop (i * 5) (now (t .entry))))) (paste (now (t .entry)) (j * 5) (drop (i * 5) (now (t .entry))) 5) (now (t .entry))) ⌝ }
 {
-    if same(rows::wide_at(t, i * 5 + 1), hash) {
+    if same(row_search::wide_at(t, i * 5 + 1), hash) {
         return j;
     }
     word_slices::move_down(t, i * 5, j * 5, 5);

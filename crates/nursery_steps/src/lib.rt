@@ -35,7 +35,7 @@ pub fn insert_held(
     let n = r.entries;
     let m = r.waiting;
     let end = r.cell_bytes;
-    let k = rows::find_wide(es, 8, n, hash);
+    let k = row_search::find_wide(es, 8, n, hash);
     let place = entries::place_of(es, k, n, end);
     entries::insert_entry(es, k, n, hash, idx, born as u64, place as u64, len as u64);
     cells::insert_cell(cs, place, end, items, at, len);
@@ -56,7 +56,7 @@ pub fn remove_held(r: Nursery, es: &mut [u64], ws: &mut [u64], cs: &mut [u8], ha
     let m = r.waiting;
     let end = r.cell_bytes;
     let waiting = waiting::remove_waiting(ws, m, hash);
-    let k = rows::find_wide(es, 8, n, hash);
+    let k = row_search::find_wide(es, 8, n, hash);
     if !entries::is_at(es, k, n, hash) {
         return Nursery {
             entries: n,

@@ -79,10 +79,10 @@ pub fn holds_entries(r: Nursery, es: &[u64]) -> bool
     ensures { λ b. ⌜ b ≡ holdsEntries r (now (es .entry)) ⌝ }
 {
     let n = r.entries;
-    if !rows::holds_rows(es, 8, n) {
+    if !row_checks::holds_rows(es, 8, n) {
         return false;
     }
-    if !rows::ascend_wide(es, 8, n) {
+    if !row_checks::ascend_wide(es, 8, n) {
         return false;
     }
     fields_hold(es, n, r.cell_bytes as u64)
@@ -93,7 +93,7 @@ pub fn holds_waiting(r: Nursery, ws: &[u64]) -> bool
     ensures { λ b. ⌜ b ≡ holdsWaiting r (now (ws .entry)) ⌝ }
 {
     let n = r.waiting;
-    if !rows::holds_rows(ws, 5, n) {
+    if !row_checks::holds_rows(ws, 5, n) {
         return false;
     }
     rounds_hold(ws, n)
@@ -155,9 +155,9 @@ pub fn find_hash(r: Nursery, es: &[u64], hash: Wide) -> usize
     ensures { λ k. ⌜ k ≡ indexOf (keyOf hash) (keys firstFour 8 (r .entries) (now (es .entry))) ⌝ }
 {
     let n = r.entries;
-    let k = rows::find_wide(es, 8, n, hash);
+    let k = row_search::find_wide(es, 8, n, hash);
     if k < n {
-        if rows::below(hash, rows::wide_at(es, k * 8)) {
+        if row_search::below(hash, row_search::wide_at(es, k * 8)) {
             return n;
         }
         return k;

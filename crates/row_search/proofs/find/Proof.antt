@@ -2,10 +2,10 @@ use Prim.Native.Nat.{_+_, _*_, _-_, _/_, _≤_, _<_}
 use native.Mathlib.Omega.{arith}
 use borrow.Author.Needs.{needs}
 use native.Mathlib.Nat.{mul-lt-mul-of-pos-right}
 use Rattle.rows.specs.Keys.{keys, firstWord, place}
 use Rattle.rows.specs.KeyLaws.{place-le, place-up, place-down, length-keys, word-at}
-use Rattle.rows.proofs.find.Statement.{statement}
-use Rattle.rows.proofs.find.Tie as tie
+use Rattle.row_search.proofs.find.Statement.{statement}
+use Rattle.row_search.proofs.find.Tie as tie
 
 abbrev Inv-loop : tie.InvT-loop
 Inv-loop t w n key lo₀ hi₀ lo hi = (lo ≤ place key (keys firstWord w n t)) × (place key (keys firstWord w n t) ≤ hi) × (hi ≤ n)

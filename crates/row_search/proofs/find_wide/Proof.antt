@@ -1,14 +1,14 @@
 use borrow.Author.Tests.{ltb-true, ltb-false}
 use Rattle.rows.specs.Keys.{keys, firstFour, place}
 use Rattle.rows.specs.Wide.{keyOf}
 use Rattle.rows.specs.TableLaws.{row-fits}
 use Rattle.rows.specs.KeyLaws.{place-le, place-up, place-down, length-keys, key-at}
 use mathlib.Core.Path.{sym, _∙_}
 use Prim.Native.Nat.{_+_, _-_, _*_, _/_, _≤_}
 use native.Mathlib.Omega.{arith}
 use borrow.Author.Needs.{needs}
-use Rattle.rows.proofs.find_wide.Statement.{statement}
-use Rattle.rows.proofs.find_wide.Tie as tie
+use Rattle.row_search.proofs.find_wide.Statement.{statement}
+use Rattle.row_search.proofs.find_wide.Tie as tie
 
 abbrev Inv-loop : tie.InvT-loop
 Inv-loop t w n key lo₀ hi₀ lo hi = (lo ≤ place (keyOf key) (keys firstFour w n t)) × (place (keyOf key) (keys firstFour w n t) ≤ hi) × (hi ≤ n)

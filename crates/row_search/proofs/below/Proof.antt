@@ -1,9 +1,9 @@
--- `rows::below` meets its contract: the highest words that differ decide.
+-- `row_search::below` meets its contract: the highest words that differ decide.
 -- Assumes nothing.
 use native.Mathlib.Omega.{arith}
 use Rattle.rows.specs.WideLaws.{Words, by-first, by-second, by-third, by-fourth}
-use Rattle.rows.proofs.below.Statement.{statement}
-use Rattle.rows.proofs.below.Tie as tie
+use Rattle.row_search.proofs.below.Statement.{statement}
+use Rattle.row_search.proofs.below.Tie as tie
 
 -- the words of both keys are u64
 words-a : (c : tie.Start) → Words (c .args .a)

@@ -1,7 +1,7 @@
 use Rattle.rows.specs.WideLaws.{four-at}
 use borrow.Author.Needs.{needs}
-use Rattle.rows.proofs.wide_at.Statement.{statement}
-use Rattle.rows.proofs.wide_at.Tie as tie
+use Rattle.row_search.proofs.wide_at.Statement.{statement}
+use Rattle.row_search.proofs.wide_at.Tie as tie
 
 mul-t3 : tie.Need-mul-t3
 mul-t3 c = search needs

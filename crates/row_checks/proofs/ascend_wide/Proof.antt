@@ -1,18 +1,18 @@
 use native.Mathlib.Nat.{le-mul-of-pos-right}
 use borrow.Author.Tests.{ltb-true, ltb-false, not-true, not-false}
 use Rattle.base.specs.Logic.{ascendingFrom}
 use Rattle.rows.specs.Keys.{keys, firstFour}
 use Rattle.rows.specs.Wide.{keyOf}
 use Rattle.rows.specs.TableLaws.{row-fits}
 use Rattle.rows.specs.KeyLaws.{length-keys, key-at, ascend-start, ascend-next, ascend-not, ascend-end}
 use mathlib.Core.Path.{_≡_, sym, _∙_}
 use Prim.Native.Nat.{ℕ, suc, _+_, _-_, _*_, _≤_}
 use native.Mathlib.Omega.{arith}
 use native.Mathlib.Numerals.{add-one}
 use borrow.Author.Needs.{needs}
 use lib.ListN.{drop, getD}
-use Rattle.rows.proofs.ascend_wide.Statement.{statement}
-use Rattle.rows.proofs.ascend_wide.Tie as tie
+use Rattle.row_checks.proofs.ascend_wide.Statement.{statement}
+use Rattle.row_checks.proofs.ascend_wide.Tie as tie
 
 abbrev Inv-loop : tie.InvT-loop
 Inv-loop t w n i₀ i = (i ≤ n) × (ascendingFrom 0 (keys firstFour w n t) ≡ ascendingFrom (getD (keys firstFour w n t) i 0) (drop i (keys firstFour w n t)))

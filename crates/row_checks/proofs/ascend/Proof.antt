@@ -1,15 +1,15 @@
 use native.Mathlib.Nat.{mul-le-mul-right, mul-lt-mul-of-pos-right, le-mul-of-pos-right}
 use Rattle.base.specs.Logic.{ascendingFrom}
 use Rattle.rows.specs.Keys.{keys, firstWord}
 use Rattle.rows.specs.KeyLaws.{length-keys, word-at, ascend-start, ascend-next, ascend-not, ascend-end}
 use mathlib.Core.Path.{_≡_, sym, _∙_}
 use Prim.Native.Nat.{suc, _+_, _-_, _*_, _≤_, _<_}
 use native.Mathlib.Omega.{arith}
 use native.Mathlib.Numerals.{add-one}
 use borrow.Author.Needs.{needs}
 use lib.ListN.{drop, getD}
-use Rattle.rows.proofs.ascend.Statement.{statement}
-use Rattle.rows.proofs.ascend.Tie as tie
+use Rattle.row_checks.proofs.ascend.Statement.{statement}
+use Rattle.row_checks.proofs.ascend.Tie as tie
 
 abbrev Inv-loop : tie.InvT-loop
 Inv-loop t w n i₀ i = (i ≤ n) × (ascendingFrom 0 (keys firstWord w n t) ≡ ascendingFrom (getD (keys firstWord w n t) i 0) (drop i (keys firstWord w n t)))

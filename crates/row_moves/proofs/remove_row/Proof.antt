@@ -1,7 +1,7 @@
 use Rattle.rows.specs.MoveLaws as moves
 use borrow.Author.Needs.{needs}
-use Rattle.rows.proofs.remove_row.Statement.{statement}
-use Rattle.rows.proofs.remove_row.Tie as tie
+use Rattle.row_moves.proofs.remove_row.Statement.{statement}
+use Rattle.row_moves.proofs.remove_row.Tie as tie
 
 add-move-down : tie.Need-add-move-down
 add-move-down c = search needs

@@ -1,11 +1,11 @@
 use Rattle.rows.specs.TableLaws.{rows-over, rows-fit, rows-test}
 use mathlib.Core.Path.{sym, _∙_}
 use Prim.Native.Nat.{_*_, _≤_}
 use native.Mathlib.Omega.{arith}
 use borrow.Author.Needs.{needs}
 use lib.ListN.{length}
-use Rattle.rows.proofs.holds_rows.Statement.{statement}
-use Rattle.rows.proofs.holds_rows.Tie as tie
+use Rattle.row_checks.proofs.holds_rows.Statement.{statement}
+use Rattle.row_checks.proofs.holds_rows.Tie as tie
 
 -- the rows lie in the table
 fits : (c : tie.Else1) → c .before .before .args .n * c .before .before .args .w ≤ length (c .before .before .args .t .now)

@@ -1,7 +1,7 @@
 use Rattle.rows.specs.MoveLaws as moves
 use borrow.Author.Needs.{needs}
-use Rattle.rows.proofs.insert_row.Statement.{statement}
-use Rattle.rows.proofs.insert_row.Tie as tie
+use Rattle.row_moves.proofs.insert_row.Statement.{statement}
+use Rattle.row_moves.proofs.insert_row.Tie as tie
 
 add-move-up : tie.Need-add-move-up
 add-move-up c = search needs
