@@ -19,7 +19,7 @@ ghost use Rattle.counters.specs.Held.{InOrder, Judged};
 ghost use Rattle.counters.specs.Steps.{transition, transitionAt, transitions, ofKind, leavesRow, some, applyOne};
 
 // Whether a transition changes a count at an index that isn't allocated.
-fn is_unallocated(next: u64, idx: u64, old: u64, new: u64) -> bool
+pub fn is_unallocated(next: u64, idx: u64, old: u64, new: u64) -> bool
     ensures { λ r. ⌜ r ≡ (changes (transition idx old new) && unallocated next (transition idx old new)) ⌝ }
 {
     if old == new {
@@ -44,7 +44,7 @@ pub fn any_unallocated(b: &[u64], next: u64) -> bool
 }
 
 // Whether a transition is kept and names idx.
-fn is_named(seek: u64, idx: u64, old: u64, new: u64) -> bool
+pub fn is_named(seek: u64, idx: u64, old: u64, new: u64) -> bool
     ensures { λ r. ⌜ r ≡ (changes (transition idx old new) && eqb seek idx) ⌝ }
 {
     if old == new {
@@ -96,7 +96,7 @@ pub fn any_repeated(b: &[u64]) -> bool
 }
 
 // Whether a transition is kept and its old count isn't the one that the table has.
-fn is_false_old(t: &[u64], n: usize, idx: u64, old: u64, new: u64) -> bool
+pub fn is_false_old(t: &[u64], n: usize, idx: u64, old: u64, new: u64) -> bool
     requires { ⌜ InOrder n (now t) ⌝ }
     ensures { λ r. ⌜ r ≡ (changes (transition idx old new) && falseOld (rowsOf countRow n (now (t .entry))) (transition idx old new)) ⌝ }
 {
@@ -155,7 +155,7 @@ fn is_kind(kind: Kind, idx: u64, old: u64, new: u64) -> bool
 }
 
 // 1 for a kept transition of a kind, else 0.
-fn counts(kind: Kind, idx: u64, old: u64, new: u64) -> u64
+pub fn counts(kind: Kind, idx: u64, old: u64, new: u64) -> u64
     ensures { λ r. ⌜ r ≡ pick (changes (transition idx old new) && ofKind kind (transition idx old new)) 1 0 ⌝ }
 {
     if old == new {
@@ -205,7 +205,7 @@ fn is_due(many: bool, idx: u64, old: u64, new: u64) -> bool
 }
 
 // Applies one transition to the table if it is due. Returns how many rows there are then.
-fn apply_one(t: &mut [u64], n: usize, idx: u64, old: u64, new: u64, many: bool) -> usize
+pub fn apply_one(t: &mut [u64], n: usize, idx: u64, old: u64, new: u64, many: bool) -> usize
     requires { ⌜ InOrder n (now t) ⌝ }
     requires { ⌜ length (applyOne many (transition idx old new) (rowsOf countRow n (now t))) * 2 ≤ length (now t) ⌝ }
     ensures { λ r. ⌜ (r ≡ length (applyOne many (transition idx old new) (rowsOf countRow n (now (t .entry))))) × (now (t .exit) ≡ rows-table.tableOf countRow (length (now (t .entry))) (applyOne many (transition idx old new) (rowsOf countRow n (now (t .entry))))) ⌝ }
@@ -247,7 +247,7 @@ fn grown_sets(b: &[u64], removed: [u64; 8]) -> [u64; 8]
 }
 
 // Maintenance after the kept transitions.
-fn maintained_by(b: &[u64], m: CounterMaintenance) -> CounterMaintenance
+pub fn maintained_by(b: &[u64], m: CounterMaintenance) -> CounterMaintenance
     ensures { λ r. ⌜ r ≡ maintained (kept (transitions (now (b .entry)))) m ⌝ }
 {
     let removed = m.small_removed_since_shrink;

@@ -1,0 +1,13 @@
+-- `Words`: records and the words that spell them. `Walk`: what a walk over records holds, and what each record does to it.
+-- `SomeLaws`: some records applied one after the other. `WalkLaws`: the walk's invariant, its measure and its end; `SumsWalkLaws`, `InvWalkLaws`,
+-- `JudgeWalkLaws`, `LookWalkLaws`, `ApplyWalkLaws`: the sums, the invariant by phase, the tests, the looks and the passes behind it.
+pub mod SomeLaws
+pub mod Words
+pub mod Walk
+pub mod SumsWalkLaws
+pub mod InvWalkLaws
+pub mod JudgeWalkLaws
+pub mod LookWalkLaws
+pub mod ApplyWalkLaws
+pub mod WalkLaws
+pub mod TurnLaws
