@@ -12,9 +12,10 @@ use borrow.Author.Tests.{le-leb, leb-true, eqb-true, eqb-false}
 use Rattle.base.specs.Logic.{pick, all, any, fold, elem, ascendingFrom}
 use Rattle.base.specs.Laws.{and-left, and-right}
 use Rattle.base.specs.ListLaws.{eqb-eq, Some, here, there, some-weaker, any-some}
-use Rattle.rows.specs.OrderLaws.{putRows-all, putRows-ascending}
+use Rattle.rows.specs.OrderLaws.{putRows-all}
 use Rattle.counters.specs.Counts.{Entry, storedAt, countAt, rowOf, setCount}
-use Rattle.counters.specs.CountLaws.{storedAt-setCount, row-within, row-ascending}
+use Rattle.counters.specs.CountLaws.{storedAt-setCount}
+use Rattle.counters.specs.ApplyLaws.{set-ascends}
 use Rattle.snapshot.specs.Read.{layBit}
 use Rattle.snapshot_laws.specs.SetLaws.{index, setRow}
 
@@ -34,11 +35,6 @@ row-two i n = go (leb 2 n) refl
 set-two : (i n : ℕ) (es : List Entry) → all two es ≡ true → all two (setCount i n es) ≡ true
 unfolding setCount
 set-two i n es a = putRows-all (λ e. e .idx) two i (suc i) (rowOf i n) es (row-two i n) a
-
--- ---- and ascending ones too
-set-ascends : (i n : ℕ) (es : List Entry) → ascendingFrom 0 (map index es) ≡ true → ascendingFrom 0 (map index (setCount i n es)) ≡ true
-unfolding setCount
-set-ascends i n es a = putRows-ascending index i (suc i) (rowOf i n) es (omega arith) (row-within i n) (row-ascending i n) a
 
 -- ---- a row has the index exactly where a count is stored
 pub stored-some : (j : ℕ) (es : List Entry) → all two es ≡ true → (0 < storedAt j es) ↔ Some (λ e. j ≡ e .idx) es
