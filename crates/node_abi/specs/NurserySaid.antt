@@ -23,18 +23,18 @@ abbrev pub bit : Bool → ℕ
 bit b = pick b 1 0
 
 -- a new state: its record's words, and its tables
-unfoldable pub changedSaid : Changed → Said
-changedSaid x =
+unfoldable pub committedSaid : Changed → Said
+committedSaid x =
     said (answerNumber (x .result .answer)) [] (nurseryWords (x .result .nursery) ∷ x .entries ∷ x .waiting ∷ x .cells ∷ [])
 
 -- an empty nursery, whatever was in the tables
-unfoldable pub newSaid : List ℕ → List ℕ → List ℕ → List ℕ → Said
-newSaid w es ws cs = overNursery w (brokenSaid [] (w ∷ es ∷ ws ∷ cs ∷ [])) (λ r. changedSaid (newCall es ws cs))
+unfoldable pub emptySaid : List ℕ → List ℕ → List ℕ → List ℕ → Said
+emptySaid w es ws cs = overNursery w (brokenSaid [] (w ∷ es ∷ ws ∷ cs ∷ [])) (λ r. committedSaid (newCall es ws cs))
 
 -- a delta
 unfoldable pub commitSaid : List ℕ → List ℕ → List ℕ → List ℕ → ℕ → ℕ → ℕ → List ℕ → Said
 commitSaid w es ws cs wide inserts removes items =
-    overNursery w (brokenSaid [] (w ∷ es ∷ ws ∷ cs ∷ [])) (λ r. changedSaid (deltaCall r es ws cs (flag wide) inserts removes items))
+    overNursery w (brokenSaid [] (w ∷ es ∷ ws ∷ cs ∷ [])) (λ r. committedSaid (deltaCall r es ws cs (flag wide) inserts removes items))
 
 -- what draining hands out: how many bytes of the output it is; the record's words, the waiting rows and the output after it
 unfoldable pub drainedSaid : DrainedOut → Said

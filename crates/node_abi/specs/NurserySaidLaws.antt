@@ -14,12 +14,12 @@ use Rattle.cell_nursery.specs.declared.Found.{Found}
 use Rattle.cell_nursery.specs.declared.Data.{Data}
 use Rattle.cell_nursery.specs.Calls.{Changed, changed, DrainedOut, drainedAs, wrote}
 use Rattle.state_words.specs.Words.{nurseryWords, said}
-use Rattle.node_abi.specs.NurserySaid.{bit, changedSaid, drainedSaid, foundSaid, placedSaid, writtenSaid}
+use Rattle.node_abi.specs.NurserySaid.{bit, committedSaid, drainedSaid, foundSaid, placedSaid, writtenSaid}
 
-pub changed-said : {x : Committed} {es ws cs v : List ℕ} {y : Changed} {r : ℕ} → changed x es ws cs ≡ y → r ≡ answerNumber (x .answer)
-    → v ≡ nurseryWords (x .nursery) → said r [] (v ∷ es ∷ ws ∷ cs ∷ []) ≡ changedSaid y
-unfolding changedSaid
-changed-said e p q = rw (p, q) (ap changedSaid e)
+pub committed-said : {x : Committed} {es ws cs v : List ℕ} {y : Changed} {r : ℕ} → changed x es ws cs ≡ y → r ≡ answerNumber (x .answer)
+    → v ≡ nurseryWords (x .nursery) → said r [] (v ∷ es ∷ ws ∷ cs ∷ []) ≡ committedSaid y
+unfolding committedSaid
+committed-said e p q = rw (p, q) (ap committedSaid e)
 
 pub drained-said : {x : Drained} {out ws v : List ℕ} {y : DrainedOut} {r : ℕ} → drainedAs x out ws ≡ y → r ≡ answerNumber (x .answer)
     → v ≡ nurseryWords (x .nursery) → said r ((x .len ∷ []) ∷ []) (v ∷ ws ∷ out ∷ []) ≡ drainedSaid y

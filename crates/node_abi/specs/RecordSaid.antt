@@ -32,12 +32,12 @@ unfoldable pub decodeSaid : List ℕ → Said
 decodeSaid bs = decodedSaid (decodeCall hash bs)
 
 -- how reading a journal ended, the records applied and the place after them; the nursery's words, and its tables
-unfoldable pub readSaid : ReadIn → Said
-readSaid x =
+unfoldable pub readInSaid : ReadIn → Said
+readInSaid x =
     said (answerNumber (x .result .ended)) ((x .result .applied ∷ x .result .place ∷ []) ∷ [])
     (nurseryWords (x .result .nursery) ∷ x .entries ∷ x .waiting ∷ x .cells ∷ [])
 
 -- a journal, read into an empty nursery, whatever was in the tables
 unfoldable pub journalSaid : List ℕ → List ℕ → List ℕ → List ℕ → List ℕ → Said
 journalSaid bs w es ws cs =
-    overNursery w (brokenSaid ((0 ∷ 0 ∷ []) ∷ []) (w ∷ es ∷ ws ∷ cs ∷ [])) (λ r. readSaid (readCall hash bs es ws cs))
+    overNursery w (brokenSaid ((0 ∷ 0 ∷ []) ∷ []) (w ∷ es ∷ ws ∷ cs ∷ [])) (λ r. readInSaid (readCall hash bs es ws cs))

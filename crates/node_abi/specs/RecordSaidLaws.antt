@@ -10,7 +10,7 @@ use Rattle.format.specs.Calls.{EncodedOut}
 use Rattle.journal.specs.declared.JournalRead.{JournalRead}
 use Rattle.journal.specs.Journal.{ReadIn}
 use Rattle.state_words.specs.Words.{nurseryWords, said}
-use Rattle.node_abi.specs.RecordSaid.{statWords, encodedSaid, decodedSaid, readSaid}
+use Rattle.node_abi.specs.RecordSaid.{statWords, encodedSaid, decodedSaid, readInSaid}
 
 pub encoded-said : {x : Encoded} {t : List ℕ} {y : EncodedOut} {r : ℕ} → record { result = x; out = t } ≡ y → r ≡ answerNumber (x .answer)
     → said r ((x .len ∷ statWords (x .stats)) ∷ []) (t ∷ []) ≡ encodedSaid y
@@ -22,8 +22,8 @@ pub decoded-said : {x y : Decoded} {r : ℕ} → x ≡ y → r ≡ answerNumber 
 unfolding decodedSaid
 decoded-said e p = rw p (ap decodedSaid e)
 
-pub read-said : {x : JournalRead} {es ws cs v : List ℕ} {y : ReadIn} {r : ℕ} → record { result = x; entries = es; waiting = ws; cells = cs } ≡ y
+pub read-in-said : {x : JournalRead} {es ws cs v : List ℕ} {y : ReadIn} {r : ℕ} → record { result = x; entries = es; waiting = ws; cells = cs } ≡ y
     → r ≡ answerNumber (x .ended) → v ≡ nurseryWords (x .nursery)
-    → said r ((x .applied ∷ x .place ∷ []) ∷ []) (v ∷ es ∷ ws ∷ cs ∷ []) ≡ readSaid y
-unfolding readSaid
-read-said e p q = rw (p, q) (ap readSaid e)
+    → said r ((x .applied ∷ x .place ∷ []) ∷ []) (v ∷ es ∷ ws ∷ cs ∷ []) ≡ readInSaid y
+unfolding readInSaid
+read-in-said e p q = rw (p, q) (ap readInSaid e)

@@ -8,7 +8,7 @@ ghost use mathlib.Core.List.{[], _∷_};
 ghost use lib.ListN.{length};
 ghost use Rattle.cell_nursery.specs.Layout.{holds, holdsEntries, holdsCells};
 ghost use Rattle.state_words.specs.Words.{nurseryOf, said};
-ghost use Rattle.node_abi.specs.NurserySaid.{newSaid, commitSaid, drainSaid, idxSaid, dataSaid, listingSaid};
+ghost use Rattle.node_abi.specs.NurserySaid.{emptySaid, commitSaid, drainSaid, idxSaid, dataSaid, listingSaid};
 
 // An empty nursery.
 #[no_mangle]
@@ -18,7 +18,7 @@ pub extern "C" fn selvaigo_nursery_new(
     waiting: &mut [u64],
     cells: &mut [u8],
 ) -> u8
-    ensures { λ r. ⌜ said r [] (now (nursery .exit) ∷ now (entries .exit) ∷ now (waiting .exit) ∷ now (cells .exit) ∷ []) ≡ newSaid (now (nursery .entry)) (now (entries .entry)) (now (waiting .entry)) (now (cells .entry)) ⌝ }
+    ensures { λ r. ⌜ said r [] (now (nursery .exit) ∷ now (entries .exit) ∷ now (waiting .exit) ∷ now (cells .exit) ∷ []) ≡ emptySaid (now (nursery .entry)) (now (entries .entry)) (now (waiting .entry)) (now (cells .entry)) ⌝ }
 {
     if nursery.len() != 3 {
         return broken();

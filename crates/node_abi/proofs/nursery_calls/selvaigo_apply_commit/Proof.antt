@@ -4,7 +4,7 @@ use lib.ListN.{length}
 use borrow.Author.Tests.{eq-eqb, ne-eqb}
 use Rattle.state_words.specs.Words.{overNursery}
 use Rattle.node_abi.specs.NurserySaid.{commitSaid}
-use Rattle.node_abi.specs.NurserySaidLaws.{changed-said}
+use Rattle.node_abi.specs.NurserySaidLaws.{committed-said}
 use borrow.Author.Needs.{needs}
 use Rattle.node_abi.proofs.nursery_calls.selvaigo_apply_commit.Statement.{statement}
 use Rattle.node_abi.proofs.nursery_calls.selvaigo_apply_commit.Tie as tie
@@ -46,7 +46,7 @@ returns-2 : tie.Need-returns-2
 unfolding commitSaid overNursery
 returns-2 c =
     let w = c .before .before .before .before .before .before .before .before .before .before .before .before .before .before .before .before .before .before .before .before .before .before .before .args .nursery .now in
-    rw (eq-eqb (length w) 3 (omega arith)) (changed-said (rw (c .before .before .before .before .before .before .before .before .before .before .before .before .before .before .before .nursery-of .ensures) at (c .before .before .before .before .before .before .before .before .before .before .before .apply-commit .ensures)) (c .number .ensures) (c .before .before .before .put-nursery .ensures))
+    rw (eq-eqb (length w) 3 (omega arith)) (committed-said (rw (c .before .before .before .before .before .before .before .before .before .before .before .before .before .before .before .nursery-of .ensures) at (c .before .before .before .before .before .before .before .before .before .before .before .apply-commit .ensures)) (c .number .ensures) (c .before .before .before .put-nursery .ensures))
 
 pub selvaigo-apply-commit-spec : {M : Type 1} → statement M
 selvaigo-apply-commit-spec =

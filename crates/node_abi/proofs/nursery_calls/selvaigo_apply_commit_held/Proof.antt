@@ -3,7 +3,7 @@ use lib.ListN.{length}
 use borrow.Author.Tests.{eq-eqb}
 use Rattle.state_words.specs.Words.{overNursery}
 use Rattle.node_abi.specs.NurserySaid.{commitSaid}
-use Rattle.node_abi.specs.NurserySaidLaws.{changed-said}
+use Rattle.node_abi.specs.NurserySaidLaws.{committed-said}
 use borrow.Author.Needs.{needs}
 use Rattle.node_abi.proofs.nursery_calls.selvaigo_apply_commit_held.Statement.{statement}
 use Rattle.node_abi.proofs.nursery_calls.selvaigo_apply_commit_held.Tie as tie
@@ -36,7 +36,7 @@ returns : tie.Need-returns
 unfolding commitSaid overNursery
 returns c =
     let at = c .before .before .before .before .before .before .before .before .before .before .before .before .before .before .before .before .before .before .before .before .before .before in
-    rw (eq-eqb (length (at .args .nursery .now)) 3 (at .pre .0)) (changed-said (rw (c .before .before .before .before .before .before .before .before .before .before .before .before .before .before .before .nursery-of .ensures) at (c .before .before .before .before .before .before .before .before .before .before .before .apply-commit-held .ensures)) (c .number .ensures) (c .before .before .before .put-nursery .ensures))
+    rw (eq-eqb (length (at .args .nursery .now)) 3 (at .pre .0)) (committed-said (rw (c .before .before .before .before .before .before .before .before .before .before .before .before .before .before .before .nursery-of .ensures) at (c .before .before .before .before .before .before .before .before .before .before .before .apply-commit-held .ensures)) (c .number .ensures) (c .before .before .before .put-nursery .ensures))
 
 pub selvaigo-apply-commit-held-spec : {M : Type 1} → statement M
 selvaigo-apply-commit-held-spec =

@@ -3,8 +3,8 @@ use native.Mathlib.Omega.{arith}
 use lib.ListN.{length}
 use borrow.Author.Tests.{eq-eqb, ne-eqb}
 use Rattle.state_words.specs.Words.{overNursery}
-use Rattle.node_abi.specs.NurserySaid.{newSaid}
-use Rattle.node_abi.specs.NurserySaidLaws.{changed-said}
+use Rattle.node_abi.specs.NurserySaid.{emptySaid}
+use Rattle.node_abi.specs.NurserySaidLaws.{committed-said}
 use borrow.Author.Needs.{needs}
 use Rattle.node_abi.proofs.nursery_calls.selvaigo_nursery_new.Statement.{statement}
 use Rattle.node_abi.proofs.nursery_calls.selvaigo_nursery_new.Tie as tie
@@ -13,7 +13,7 @@ broken-requires : tie.Need-broken-requires
 broken-requires c κs = search needs
 
 returns : tie.Need-returns
-unfolding newSaid overNursery
+unfolding emptySaid overNursery
 returns c =
     let w = c .before .before .before .before .before .before .args .nursery .now in
     rw (ne-eqb (length w) 3 (λ h. omega (arith, h)), c .broken .ensures)
@@ -40,10 +40,10 @@ same-length-4 : tie.Need-same-length-4
 same-length-4 c = search needs
 
 returns-2 : tie.Need-returns-2
-unfolding newSaid overNursery
+unfolding emptySaid overNursery
 returns-2 c =
     let w = c .before .before .before .before .before .before .before .before .before .before .before .before .before .before .before .before .before .before .before .before .args .nursery .now in
-    rw (eq-eqb (length w) 3 (omega arith)) (changed-said (c .before .before .before .before .before .before .before .before .before .before .before .new .ensures) (c .number .ensures) (c .before .before .before .put-nursery .ensures))
+    rw (eq-eqb (length w) 3 (omega arith)) (committed-said (c .before .before .before .before .before .before .before .before .before .before .before .new .ensures) (c .number .ensures) (c .before .before .before .put-nursery .ensures))
 
 pub selvaigo-nursery-new-spec : {M : Type 1} → statement M
 selvaigo-nursery-new-spec =

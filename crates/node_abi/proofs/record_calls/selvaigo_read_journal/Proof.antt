@@ -4,7 +4,7 @@ use lib.ListN.{length}
 use borrow.Author.Tests.{eq-eqb, ne-eqb}
 use Rattle.state_words.specs.Words.{overNursery}
 use Rattle.node_abi.specs.RecordSaid.{journalSaid}
-use Rattle.node_abi.specs.RecordSaidLaws.{read-said}
+use Rattle.node_abi.specs.RecordSaidLaws.{read-in-said}
 use borrow.Author.Needs.{needs}
 use Rattle.node_abi.proofs.record_calls.selvaigo_read_journal.Statement.{statement}
 use Rattle.node_abi.proofs.record_calls.selvaigo_read_journal.Tie as tie
@@ -43,7 +43,7 @@ returns-2 : tie.Need-returns-2
 unfolding journalSaid overNursery
 returns-2 c =
     let w = c .before .before .before .before .before .before .before .before .before .before .before .before .before .before .before .before .before .before .before .before .before .before .args .nursery .now in
-    rw (eq-eqb (length w) 3 (omega arith)) (read-said (c .before .before .before .before .before .before .before .before .before .before .before .before .read-journal .ensures) (c .number .ensures) (c .before .before .before .put-nursery .ensures))
+    rw (eq-eqb (length w) 3 (omega arith)) (read-in-said (c .before .before .before .before .before .before .before .before .before .before .before .before .read-journal .ensures) (c .number .ensures) (c .before .before .before .put-nursery .ensures))
 
 pub selvaigo-read-journal-spec : {M : Type 1} → statement M
 selvaigo-read-journal-spec =
