@@ -1,4 +1,6 @@
 // The nursery's calls. A form named .._held requires of the record and the tables what the form beside it tests.
+use nursery_commit::apply_commit;
+use nursery_commit::apply_commit_held;
 use state_words::broken;
 use state_words::nursery_of;
 use state_words::put_nursery;
@@ -23,9 +25,9 @@ pub extern "C" fn selvaigo_nursery_new(
     if nursery.len() != 3 {
         return broken();
     }
-    let x = nursery_table::new(entries, waiting, cells);
-    put_nursery(nursery, x.nursery);
-    let a = x.answer;
+    let made = nursery_table::new(entries, waiting, cells);
+    put_nursery(nursery, made.nursery);
+    let a = made.answer;
     a.number()
 }
 
@@ -47,18 +49,10 @@ pub extern "C" fn selvaigo_apply_commit(
         return broken();
     }
     let r = nursery_of(nursery);
-    let x = nursery_commit::apply_commit(
-        r,
-        entries,
-        waiting,
-        cells,
-        wide != 0,
-        inserts,
-        removes,
-        items,
-    );
-    put_nursery(nursery, x.nursery);
-    let a = x.answer;
+    let w = wide != 0;
+    let done = apply_commit(r, entries, waiting, cells, w, inserts, removes, items);
+    put_nursery(nursery, done.nursery);
+    let a = done.answer;
     a.number()
 }
 
@@ -78,16 +72,8 @@ pub extern "C" fn selvaigo_apply_commit_held(
     ensures { λ r. ⌜ said r [] (now (nursery .exit) ∷ now (entries .exit) ∷ now (waiting .exit) ∷ now (cells .exit) ∷ []) ≡ commitSaid (now (nursery .entry)) (now (entries .entry)) (now (waiting .entry)) (now (cells .entry)) wide inserts removes (now (items .entry)) ⌝ }
 {
     let r = nursery_of(nursery);
-    let x = nursery_commit::apply_commit_held(
-        r,
-        entries,
-        waiting,
-        cells,
-        wide != 0,
-        inserts,
-        removes,
-        items,
-    );
+    let w = wide != 0;
+    let x = apply_commit_held(r, entries, waiting, cells, w, inserts, removes, items);
     put_nursery(nursery, x.nursery);
     let a = x.answer;
     a.number()
@@ -111,10 +97,10 @@ pub extern "C" fn selvaigo_drain_promotable(
         return broken();
     }
     let r = nursery_of(nursery);
-    let x = nursery_drain::drain_promotable(r, entries, waiting, cells, round, out);
-    *len = [x.len as u64];
-    put_nursery(nursery, x.nursery);
-    let a = x.answer;
+    let drained = nursery_drain::drain_promotable(r, entries, waiting, cells, round, out);
+    *len = [drained.len as u64];
+    put_nursery(nursery, drained.nursery);
+    let a = drained.answer;
     a.number()
 }
 
@@ -154,9 +140,9 @@ pub extern "C" fn selvaigo_get_idx(
         *found = [0; 2];
         return broken();
     }
-    let x = nursery_table::get_idx(nursery_of(nursery), entries, *hash);
-    *found = [x.found as u64, x.idx.0];
-    let a = x.answer;
+    let entry = nursery_table::get_idx(nursery_of(nursery), entries, *hash);
+    *found = [entry.found as u64, entry.idx.0];
+    let a = entry.answer;
     a.number()
 }
 
@@ -192,9 +178,9 @@ pub extern "C" fn selvaigo_get_data(
         *found = [0; 3];
         return broken();
     }
-    let x = nursery_table::get_data(nursery_of(nursery), entries, cells, *hash);
-    *found = [x.found as u64, x.place as u64, x.len as u64];
-    let a = x.answer;
+    let cell = nursery_table::get_data(nursery_of(nursery), entries, cells, *hash);
+    *found = [cell.found as u64, cell.place as u64, cell.len as u64];
+    let a = cell.answer;
     a.number()
 }
 
@@ -231,9 +217,9 @@ pub extern "C" fn selvaigo_snapshot_entries(
         *len = [0];
         return broken();
     }
-    let x = nursery_listing::snapshot_entries(nursery_of(nursery), entries, cells, out);
-    *len = [x.len as u64];
-    let a = x.answer;
+    let wrote = nursery_listing::snapshot_entries(nursery_of(nursery), entries, cells, out);
+    *len = [wrote.len as u64];
+    let a = wrote.answer;
     a.number()
 }
 
