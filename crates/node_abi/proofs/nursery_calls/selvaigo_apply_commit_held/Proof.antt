@@ -1,0 +1,53 @@
+-- `node_abi::selvaigo_apply_commit_held` meets its contract: the call under it, over words. Assumes nothing.
+use lib.ListN.{length}
+use borrow.Author.Tests.{eq-eqb}
+use Rattle.state_words.specs.Words.{overNursery}
+use Rattle.node_abi.specs.NurserySaid.{commitSaid}
+use Rattle.node_abi.specs.NurserySaidLaws.{committed-said}
+use borrow.Author.Needs.{needs}
+use Rattle.node_abi.proofs.nursery_calls.selvaigo_apply_commit_held.Statement.{statement}
+use Rattle.node_abi.proofs.nursery_calls.selvaigo_apply_commit_held.Tie as tie
+
+nursery-of-requires : tie.Need-nursery-of-requires
+nursery-of-requires c κs = search needs
+
+apply-commit-held-requires : tie.Need-apply-commit-held-requires
+apply-commit-held-requires c κs = rw (c .before .before .before .nursery-of .ensures) (c .before .before .before .before .before .before .before .before .before .before .pre .1)
+
+put-nursery-requires : tie.Need-put-nursery-requires
+put-nursery-requires c κs = search needs
+
+number-requires : tie.Need-number-requires
+number-requires c κs = search needs
+
+same-length : tie.Need-same-length
+same-length c = search needs
+
+same-length-2 : tie.Need-same-length-2
+same-length-2 c = search needs
+
+same-length-3 : tie.Need-same-length-3
+same-length-3 c = search needs
+
+same-length-4 : tie.Need-same-length-4
+same-length-4 c = search needs
+
+returns : tie.Need-returns
+unfolding commitSaid overNursery
+returns c =
+    let at = c .before .before .before .before .before .before .before .before .before .before .before .before .before .before .before .before .before .before .before .before .before .before in
+    rw (eq-eqb (length (at .args .nursery .now)) 3 (at .pre .0)) (committed-said (rw (c .before .before .before .before .before .before .before .before .before .before .before .before .before .before .before .nursery-of .ensures) at (c .before .before .before .before .before .before .before .before .before .before .before .apply-commit-held .ensures)) (c .number .ensures) (c .before .before .before .put-nursery .ensures))
+
+pub selvaigo-apply-commit-held-spec : {M : Type 1} → statement M
+selvaigo-apply-commit-held-spec =
+    tie.close
+    (tie.spec
+    nursery-of-requires
+    apply-commit-held-requires
+    put-nursery-requires
+    number-requires
+    same-length
+    same-length-2
+    same-length-3
+    same-length-4
+    returns)

@@ -1,0 +1,51 @@
+-- `node_abi::selvaigo_drain_promotable_held` meets its contract: the call under it, over words. Assumes nothing.
+use lib.ListN.{length}
+use borrow.Author.Tests.{eq-eqb}
+use Rattle.state_words.specs.Words.{overNursery}
+use Rattle.node_abi.specs.NurserySaid.{drainSaid}
+use Rattle.node_abi.specs.NurserySaidLaws.{drained-said}
+use borrow.Author.Needs.{needs}
+use Rattle.node_abi.proofs.nursery_calls.selvaigo_drain_promotable_held.Statement.{
+  statement,
+}
+use Rattle.node_abi.proofs.nursery_calls.selvaigo_drain_promotable_held.Tie as tie
+
+nursery-of-requires : tie.Need-nursery-of-requires
+nursery-of-requires c κs = search needs
+
+drain-promotable-held-requires : tie.Need-drain-promotable-held-requires
+drain-promotable-held-requires c κs = rw (c .before .before .nursery-of .ensures) (c .before .before .before .before .before .before .before .before .before .pre .1)
+
+put-nursery-requires : tie.Need-put-nursery-requires
+put-nursery-requires c κs = search needs
+
+number-requires : tie.Need-number-requires
+number-requires c κs = search needs
+
+same-length : tie.Need-same-length
+same-length c = search needs
+
+same-length-2 : tie.Need-same-length-2
+same-length-2 c = search needs
+
+same-length-3 : tie.Need-same-length-3
+same-length-3 c = search needs
+
+returns : tie.Need-returns
+unfolding drainSaid overNursery
+returns c =
+    let at = c .before .before .before .before .before .before .before .before .before .before .before .before .before .before .before .before .before .before .before .before in
+    rw (eq-eqb (length (at .args .nursery .now)) 3 (at .pre .0)) (drained-said (rw (c .before .before .before .before .before .before .before .before .before .before .before .before .before .nursery-of .ensures) at (c .before .before .before .before .before .before .before .before .before .before .drain-promotable-held .ensures)) (c .number .ensures) (c .before .before .before .put-nursery .ensures))
+
+pub selvaigo-drain-promotable-held-spec : {M : Type 1} → statement M
+selvaigo-drain-promotable-held-spec =
+    tie.close
+    (tie.spec
+    nursery-of-requires
+    drain-promotable-held-requires
+    put-nursery-requires
+    number-requires
+    same-length
+    same-length-2
+    same-length-3
+    returns)

@@ -1,0 +1,33 @@
+-- `node_abi::selvaigo_get_data_held` meets its contract: the call under it, over words. Assumes nothing.
+use lib.ListN.{length}
+use borrow.Author.Tests.{eq-eqb}
+use Rattle.state_words.specs.Words.{overNursery}
+use Rattle.node_abi.specs.NurserySaid.{dataSaid}
+use Rattle.node_abi.specs.NurserySaidLaws.{placed-said}
+use borrow.Author.Needs.{needs}
+use Rattle.node_abi.proofs.nursery_calls.selvaigo_get_data_held.Statement.{statement}
+use Rattle.node_abi.proofs.nursery_calls.selvaigo_get_data_held.Tie as tie
+
+nursery-of-requires : tie.Need-nursery-of-requires
+nursery-of-requires c κs = search needs
+
+get-data-held-requires : tie.Need-get-data-held-requires
+get-data-held-requires c κs = let p = c .before .before .before .before .before .pre in
+    rw (c .before .nursery-of .ensures) (p .1, p .2)
+
+cast-t10 : tie.Need-cast-t10
+cast-t10 c = search needs
+
+number-requires : tie.Need-number-requires
+number-requires c κs = search needs
+
+returns : tie.Need-returns
+unfolding dataSaid overNursery
+returns c =
+    let at = c .before .before .before .before .before .before .before .before .before in
+    rw (eq-eqb (length (at .args .nursery .now)) 3 (at .pre .0)) (placed-said (rw (c .before .before .before .before .before .nursery-of .ensures) at (c .before .before .before .get-data-held .ensures)) (c .number .ensures))
+
+pub selvaigo-get-data-held-spec : {M : Type 1} → statement M
+selvaigo-get-data-held-spec =
+    tie.close
+    (tie.spec nursery-of-requires get-data-held-requires cast-t10 number-requires returns)

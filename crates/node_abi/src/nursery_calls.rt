@@ -1,0 +1,242 @@
+// The nursery's calls. A form named .._held requires of the record and the tables what the form beside it tests.
+use nursery_commit::apply_commit;
+use nursery_commit::apply_commit_held;
+use state_words::broken;
+use state_words::nursery_of;
+use state_words::put_nursery;
+ghost use mathlib.Core.Path.{_≡_};
+ghost use mathlib.Core.Bool.{true};
+ghost use mathlib.Core.List.{[], _∷_};
+ghost use lib.ListN.{length};
+ghost use Rattle.cell_nursery.specs.Layout.{holds, holdsEntries, holdsCells};
+ghost use Rattle.state_words.specs.Words.{nurseryOf, said};
+ghost use Rattle.node_abi.specs.NurserySaid.{emptySaid, commitSaid, drainSaid, idxSaid, dataSaid, listingSaid};
+
+// An empty nursery.
+#[no_mangle]
+pub extern "C" fn selvaigo_nursery_new(
+    nursery: &mut [u64],
+    entries: &mut [u64],
+    waiting: &mut [u64],
+    cells: &mut [u8],
+) -> u8
+    ensures { λ r. ⌜ said r [] (now (nursery .exit) ∷ now (entries .exit) ∷ now (waiting .exit) ∷ now (cells .exit) ∷ []) ≡ emptySaid (now (nursery .entry)) (now (entries .entry)) (now (waiting .entry)) (now (cells .entry)) ⌝ }
+{
+    if nursery.len() != 3 {
+        return broken();
+    }
+    let made = nursery_table::new(entries, waiting, cells);
+    put_nursery(nursery, made.nursery);
+    let a = made.answer;
+    a.number()
+}
+
+// A delta.
+#[no_mangle]
+pub extern "C" fn selvaigo_apply_commit(
+    nursery: &mut [u64],
+    entries: &mut [u64],
+    waiting: &mut [u64],
+    cells: &mut [u8],
+    wide: u8,
+    inserts: u64,
+    removes: u64,
+    items: &[u8],
+) -> u8
+    ensures { λ r. ⌜ said r [] (now (nursery .exit) ∷ now (entries .exit) ∷ now (waiting .exit) ∷ now (cells .exit) ∷ []) ≡ commitSaid (now (nursery .entry)) (now (entries .entry)) (now (waiting .entry)) (now (cells .entry)) wide inserts removes (now (items .entry)) ⌝ }
+{
+    if nursery.len() != 3 {
+        return broken();
+    }
+    let r = nursery_of(nursery);
+    let w = wide != 0;
+    let done = apply_commit(r, entries, waiting, cells, w, inserts, removes, items);
+    put_nursery(nursery, done.nursery);
+    let a = done.answer;
+    a.number()
+}
+
+// The same, where the record and the tables hold a state.
+#[no_mangle]
+pub extern "C" fn selvaigo_apply_commit_held(
+    nursery: &mut [u64],
+    entries: &mut [u64],
+    waiting: &mut [u64],
+    cells: &mut [u8],
+    wide: u8,
+    inserts: u64,
+    removes: u64,
+    items: &[u8],
+) -> u8
+    requires { ⌜ (length (now nursery) ≡ 3) × (holds (nurseryOf (now nursery)) (now entries) (now waiting) (now cells) ≡ true) ⌝ }
+    ensures { λ r. ⌜ said r [] (now (nursery .exit) ∷ now (entries .exit) ∷ now (waiting .exit) ∷ now (cells .exit) ∷ []) ≡ commitSaid (now (nursery .entry)) (now (entries .entry)) (now (waiting .entry)) (now (cells .entry)) wide inserts removes (now (items .entry)) ⌝ }
+{
+    let r = nursery_of(nursery);
+    let w = wide != 0;
+    let x = apply_commit_held(r, entries, waiting, cells, w, inserts, removes, items);
+    put_nursery(nursery, x.nursery);
+    let a = x.answer;
+    a.number()
+}
+
+// What is due for promotion at a round, written into the output.
+#[no_mangle]
+pub extern "C" fn selvaigo_drain_promotable(
+    nursery: &mut [u64],
+    entries: &[u64],
+    waiting: &mut [u64],
+    cells: &[u8],
+    round: u32,
+    out: &mut [u8],
+    len: &mut [u64; 1],
+) -> u8
+    ensures { λ r. ⌜ said r (now (len .exit) ∷ []) (now (nursery .exit) ∷ now (waiting .exit) ∷ now (out .exit) ∷ []) ≡ drainSaid (now (nursery .entry)) (now (entries .entry)) (now (waiting .entry)) (now (cells .entry)) round (now (out .entry)) ⌝ }
+{
+    if nursery.len() != 3 {
+        *len = [0];
+        return broken();
+    }
+    let r = nursery_of(nursery);
+    let drained = nursery_drain::drain_promotable(r, entries, waiting, cells, round, out);
+    *len = [drained.len as u64];
+    put_nursery(nursery, drained.nursery);
+    let a = drained.answer;
+    a.number()
+}
+
+// The same, where the record and the tables hold a state.
+#[no_mangle]
+pub extern "C" fn selvaigo_drain_promotable_held(
+    nursery: &mut [u64],
+    entries: &[u64],
+    waiting: &mut [u64],
+    cells: &[u8],
+    round: u32,
+    out: &mut [u8],
+    len: &mut [u64; 1],
+) -> u8
+    requires { ⌜ (length (now nursery) ≡ 3) × (holds (nurseryOf (now nursery)) (now entries) (now waiting) (now cells) ≡ true) ⌝ }
+    ensures { λ r. ⌜ said r (now (len .exit) ∷ []) (now (nursery .exit) ∷ now (waiting .exit) ∷ now (out .exit) ∷ []) ≡ drainSaid (now (nursery .entry)) (now (entries .entry)) (now (waiting .entry)) (now (cells .entry)) round (now (out .entry)) ⌝ }
+{
+    let r = nursery_of(nursery);
+    let x = nursery_drain::drain_promotable_held(r, entries, waiting, cells, round, out);
+    *len = [x.len as u64];
+    put_nursery(nursery, x.nursery);
+    let a = x.answer;
+    a.number()
+}
+
+// The index of a hash.
+#[no_mangle]
+pub extern "C" fn selvaigo_get_idx(
+    nursery: &[u64],
+    entries: &[u64],
+    hash: &[u8; 32],
+    found: &mut [u64; 2],
+) -> u8
+    ensures { λ r. ⌜ said r (now (found .exit) ∷ []) [] ≡ idxSaid (now (nursery .entry)) (now (entries .entry)) (now (hash .entry)) ⌝ }
+{
+    if nursery.len() != 3 {
+        *found = [0; 2];
+        return broken();
+    }
+    let entry = nursery_table::get_idx(nursery_of(nursery), entries, *hash);
+    *found = [entry.found as u64, entry.idx.0];
+    let a = entry.answer;
+    a.number()
+}
+
+// The same, where the record and the entries hold a state.
+#[no_mangle]
+pub extern "C" fn selvaigo_get_idx_held(
+    nursery: &[u64],
+    entries: &[u64],
+    hash: &[u8; 32],
+    found: &mut [u64; 2],
+) -> u8
+    requires { ⌜ (length (now nursery) ≡ 3) × (holdsEntries (nurseryOf (now nursery)) (now entries) ≡ true) ⌝ }
+    ensures { λ r. ⌜ said r (now (found .exit) ∷ []) [] ≡ idxSaid (now (nursery .entry)) (now (entries .entry)) (now (hash .entry)) ⌝ }
+{
+    let x = nursery_table::get_idx_held(nursery_of(nursery), entries, *hash);
+    *found = [x.found as u64, x.idx.0];
+    let a = x.answer;
+    a.number()
+}
+
+// Where the cell of a hash lies.
+#[no_mangle]
+pub extern "C" fn selvaigo_get_data(
+    nursery: &[u64],
+    entries: &[u64],
+    cells: &[u8],
+    hash: &[u8; 32],
+    found: &mut [u64; 3],
+) -> u8
+    ensures { λ r. ⌜ said r (now (found .exit) ∷ []) [] ≡ dataSaid (now (nursery .entry)) (now (entries .entry)) (now (cells .entry)) (now (hash .entry)) ⌝ }
+{
+    if nursery.len() != 3 {
+        *found = [0; 3];
+        return broken();
+    }
+    let cell = nursery_table::get_data(nursery_of(nursery), entries, cells, *hash);
+    *found = [cell.found as u64, cell.place as u64, cell.len as u64];
+    let a = cell.answer;
+    a.number()
+}
+
+// The same, where the record, the entries and the cells hold a state.
+#[no_mangle]
+pub extern "C" fn selvaigo_get_data_held(
+    nursery: &[u64],
+    entries: &[u64],
+    cells: &[u8],
+    hash: &[u8; 32],
+    found: &mut [u64; 3],
+) -> u8
+    requires { ⌜ (length (now nursery) ≡ 3) × (holdsEntries (nurseryOf (now nursery)) (now entries) ≡ true) × (holdsCells (nurseryOf (now nursery)) (now cells) ≡ true) ⌝ }
+    ensures { λ r. ⌜ said r (now (found .exit) ∷ []) [] ≡ dataSaid (now (nursery .entry)) (now (entries .entry)) (now (cells .entry)) (now (hash .entry)) ⌝ }
+{
+    let x = nursery_table::get_data_held(nursery_of(nursery), entries, cells, *hash);
+    *found = [x.found as u64, x.place as u64, x.len as u64];
+    let a = x.answer;
+    a.number()
+}
+
+// The listing, written into the output.
+#[no_mangle]
+pub extern "C" fn selvaigo_snapshot_entries(
+    nursery: &[u64],
+    entries: &[u64],
+    cells: &[u8],
+    out: &mut [u8],
+    len: &mut [u64; 1],
+) -> u8
+    ensures { λ r. ⌜ said r (now (len .exit) ∷ []) (now (out .exit) ∷ []) ≡ listingSaid (now (nursery .entry)) (now (entries .entry)) (now (cells .entry)) (now (out .entry)) ⌝ }
+{
+    if nursery.len() != 3 {
+        *len = [0];
+        return broken();
+    }
+    let wrote = nursery_listing::snapshot_entries(nursery_of(nursery), entries, cells, out);
+    *len = [wrote.len as u64];
+    let a = wrote.answer;
+    a.number()
+}
+
+// The same, where the record, the entries and the cells hold a state.
+#[no_mangle]
+pub extern "C" fn selvaigo_snapshot_entries_held(
+    nursery: &[u64],
+    entries: &[u64],
+    cells: &[u8],
+    out: &mut [u8],
+    len: &mut [u64; 1],
+) -> u8
+    requires { ⌜ (length (now nursery) ≡ 3) × (holdsEntries (nurseryOf (now nursery)) (now entries) ≡ true) × (holdsCells (nurseryOf (now nursery)) (now cells) ≡ true) ⌝ }
+    ensures { λ r. ⌜ said r (now (len .exit) ∷ []) (now (out .exit) ∷ []) ≡ listingSaid (now (nursery .entry)) (now (entries .entry)) (now (cells .entry)) (now (out .entry)) ⌝ }
+{
+    let x = nursery_listing::snapshot_entries_held(nursery_of(nursery), entries, cells, out);
+    *len = [x.len as u64];
+    let a = x.answer;
+    a.number()
+}

@@ -1,0 +1,68 @@
+-- The two state records as words in the order of docs/LAYOUT.md, and what a call that is lent words gives and leaves.
+-- Assumes nothing.
+use Prim.Native.Nat.{ℕ}
+use mathlib.Core.List.{List, [], _∷_}
+use lib.ListN.{length, getD}
+use lib.Dec.{eqb}
+use Rattle.base.specs.Logic.{pick}
+use Rattle.base.specs.Answers.{numberOf}
+use Rattle.base.specs.declared.Refusal.the-variants.{Broken}
+use Rattle.counters.specs.declared.Counters.{Counters}
+use Rattle.cell_nursery.specs.declared.Nursery.{Nursery}
+
+-- the counters that 13 words spell
+abbrev pub countersOf : List ℕ → Counters
+countersOf w =
+    record {
+      «next_idx» = record { 0 = getD w 0 0 };
+      «live_cells» = getD w 1 0;
+      stored = getD w 2 0;
+      maintenance =
+          record {
+            «alive_removed_since_shrink» = getD w 3 0;
+            «small_removed_since_shrink» =
+                getD w 4 0 ∷ getD w 5 0 ∷ getD w 6 0 ∷ getD w 7 0 ∷ getD w 8 0 ∷ getD w 9 0 ∷ getD w 10 0 ∷ getD w 11 0 ∷ [];
+            «min_alive_removed_before_shrink» = getD w 12 0;
+          };
+    }
+
+-- eight removal counts, and the threshold behind them
+abbrev pub setWords : List ℕ → ℕ → List ℕ
+setWords s min =
+    getD s 0 0 ∷ getD s 1 0 ∷ getD s 2 0 ∷ getD s 3 0 ∷ getD s 4 0 ∷ getD s 5 0 ∷ getD s 6 0 ∷ getD s 7 0 ∷ min ∷ []
+
+-- the 13 words of counters
+abbrev pub countersWords : Counters → List ℕ
+countersWords c =
+    c .«next_idx» .0 ∷ c .«live_cells» ∷ c .stored ∷ c .maintenance .«alive_removed_since_shrink»
+    ∷ setWords (c .maintenance .«small_removed_since_shrink») (c .maintenance .«min_alive_removed_before_shrink»)
+
+-- the nursery that 3 words spell
+abbrev pub nurseryOf : List ℕ → Nursery
+nurseryOf w = record { entries = getD w 0 0; waiting = getD w 1 0; «cell_bytes» = getD w 2 0 }
+
+-- the 3 words of a nursery
+abbrev pub nurseryWords : Nursery → List ℕ
+nurseryWords n = n .entries ∷ n .waiting ∷ n .«cell_bytes» ∷ []
+
+-- what a call that is lent words gives: its answer's number, what it writes through each value pointer, and what it leaves of each
+-- slice that it is lent to write, in the order of its parameters
+pub record Said : Type 0 where
+  pub answer : ℕ
+  pub values : List (List ℕ)
+  pub lent : List (List ℕ)
+
+abbrev pub said : ℕ → List (List ℕ) → List (List ℕ) → Said
+said r vs ls = record { answer = r; values = vs; lent = ls }
+
+-- 20, with these values and slices
+abbrev pub brokenSaid : List (List ℕ) → List (List ℕ) → Said
+brokenSaid vs ls = said (numberOf Broken) vs ls
+
+-- a call on the counters that a slice of 13 words spells; with another length, what stands first
+unfoldable pub overCounters : List ℕ → Said → (Counters → Said) → Said
+overCounters w d f = pick (eqb (length w) 13) (f (countersOf w)) d
+
+-- a call on the nursery that a slice of 3 words spells; with another length, what stands first
+unfoldable pub overNursery : List ℕ → Said → (Nursery → Said) → Said
+overNursery w d f = pick (eqb (length w) 3) (f (nurseryOf w)) d

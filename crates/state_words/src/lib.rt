@@ -1,0 +1,89 @@
+// The two state records as words in the order of docs/LAYOUT.md, for the calls that are lent words.
+use base::Answer;
+use base::Refusal;
+use cell_nursery::Nursery;
+use counters::CounterMaintenance;
+use counters::Counters;
+use counters::NextIdx;
+ghost use mathlib.Core.Path.{_≡_};
+ghost use lib.ListN.{length};
+ghost use Rattle.base.specs.Answers.{numberOf};
+ghost use Rattle.base.specs.declared.Refusal.the-variants as refusals;
+ghost use Rattle.state_words.specs.Words.{countersOf, countersWords, nurseryOf, nurseryWords};
+
+// The answer where a record isn't lent in as many words as it has.
+pub fn broken() -> u8
+    ensures { λ r. ⌜ r ≡ numberOf refusals.Broken ⌝ }
+{
+    let a = Answer::Refused(Refusal::Broken);
+    a.number()
+}
+
+// The counters that 13 words spell.
+pub fn counters_of(w: &[u64]) -> Counters
+    requires { ⌜ length (now w) ≡ 13 ⌝ }
+    ensures { λ r. ⌜ r ≡ countersOf (now (w .entry)) ⌝ }
+{
+    Counters {
+        next_idx: NextIdx(w[0]),
+        live_cells: w[1],
+        stored: w[2] as usize,
+        maintenance: CounterMaintenance {
+            alive_removed_since_shrink: w[3],
+            small_removed_since_shrink: [w[4], w[5], w[6], w[7], w[8], w[9], w[10], w[11]],
+            min_alive_removed_before_shrink: w[12],
+        },
+    }
+}
+
+fn counters_words(c: Counters) -> [u64; 13]
+    ensures { λ r. ⌜ r ≡ countersWords c ⌝ }
+{
+    let m = c.maintenance;
+    let s = m.small_removed_since_shrink;
+    [
+        c.next_idx.0,
+        c.live_cells,
+        c.stored as u64,
+        m.alive_removed_since_shrink,
+        s[0],
+        s[1],
+        s[2],
+        s[3],
+        s[4],
+        s[5],
+        s[6],
+        s[7],
+        m.min_alive_removed_before_shrink,
+    ]
+}
+
+// The words of counters go into 13 words.
+pub fn put_counters(w: &mut [u64], c: Counters)
+    requires { ⌜ length (now w) ≡ 13 ⌝ }
+    ensures { λ _. ⌜ now (w .exit) ≡ countersWords c ⌝ }
+{
+    let words = counters_words(c);
+    word_slices::copy_at(w, 0, &words);
+}
+
+// The nursery that 3 words spell.
+pub fn nursery_of(w: &[u64]) -> Nursery
+    requires { ⌜ length (now w) ≡ 3 ⌝ }
+    ensures { λ r. ⌜ r ≡ nurseryOf (now (w .entry)) ⌝ }
+{
+    Nursery {
+        entries: w[0] as usize,
+        waiting: w[1] as usize,
+        cell_bytes: w[2] as usize,
+    }
+}
+
+// The words of a nursery go into 3 words.
+pub fn put_nursery(w: &mut [u64], n: Nursery)
+    requires { ⌜ length (now w) ≡ 3 ⌝ }
+    ensures { λ _. ⌜ now (w .exit) ≡ nurseryWords n ⌝ }
+{
+    let words = [n.entries as u64, n.waiting as u64, n.cell_bytes as u64];
+    word_slices::copy_at(w, 0, &words);
+}
