@@ -70,29 +70,29 @@ module _ (w : List ℕ) (e : length w ≡ 13) where
     unfolding allocSaid allocatedSaid
     alloc-said g p q = rw (p, q) (ap allocatedSaid (g ∙ ap allocCall s) ∙ over-counters w _ _ e)
 
-    pub get-said : (t : List ℕ) (i : ℕ) {x : Got} → x ≡ getCall c t (record { 0 = i }) → r ≡ answerNumber (x .answer)
-        → said r (oneWord (x .count .0)) [] ≡ getSaid w t i
+    pub get-said : (t : List ℕ) (i : ℕ) {x : Got} {n : List ℕ} → x ≡ getCall c t (record { 0 = i }) → (r ≡ answerNumber (x .answer)) × (n ≡ x .count .0 ∷ [])
+        → said r (n ∷ []) [] ≡ getSaid w t i
     unfolding getSaid gotSaid
-    get-said t i g p = rw p (ap gotSaid (g ∙ ap (λ (k : Counters). getCall k t (record { 0 = i })) s) ∙ over-counters w _ _ e)
+    get-said t i g p = rw (p .0, p .1) (ap gotSaid (g ∙ ap (λ (k : Counters). getCall k t (record { 0 = i })) s) ∙ over-counters w _ _ e)
 
-    pub batch-said : (t b : List ℕ) {x : Applied} {u v : List ℕ} → changed x u ≡ batchCall c t b → r ≡ answerNumber (x .answer) → v ≡ countersWords (x .counters)
+    pub batch-said : (t b : List ℕ) {x : Applied} {u v : List ℕ} → changed x u ≡ batchCall c t b → (r ≡ answerNumber (x .answer)) × (v ≡ countersWords (x .counters))
         → said r [] (v ∷ u ∷ []) ≡ batchSaid w t b
     unfolding batchSaid changedSaid
-    batch-said t b g p q = rw (p, q) (ap changedSaid (g ∙ ap (λ (k : Counters). batchCall k t b) s) ∙ over-counters w _ _ e)
+    batch-said t b g p = rw (p .0, p .1) (ap changedSaid (g ∙ ap (λ (k : Counters). batchCall k t b) s) ∙ over-counters w _ _ e)
 
-    pub shrink-said : (t : List ℕ) (saved : ℕ) {x : Shrunk} {v : List ℕ} → x ≡ shrinkCall standard c t saved → r ≡ answerNumber (x .answer) → v ≡ countersWords (x .counters)
-        → said r (decisions (x .alive) (x .small) ∷ []) (v ∷ []) ≡ shrinkSaid w t saved
+    pub shrink-said : (t : List ℕ) (saved : ℕ) {x : Shrunk} {v d : List ℕ} → x ≡ shrinkCall standard c t saved
+        → (r ≡ answerNumber (x .answer)) × (d ≡ decisions (x .alive) (x .small)) × (v ≡ countersWords (x .counters)) → said r (d ∷ []) (v ∷ []) ≡ shrinkSaid w t saved
     unfolding shrinkSaid shrunkSaid
-    shrink-said t saved g p q = rw (p, q) (ap shrunkSaid (g ∙ ap (λ (k : Counters). shrinkCall standard k t saved) s) ∙ over-counters w _ _ e)
+    shrink-said t saved g p = rw (p .0, p .1, p .2) (ap shrunkSaid (g ∙ ap (λ (k : Counters). shrinkCall standard k t saved) s) ∙ over-counters w _ _ e)
 
-    pub length-said : (t : List ℕ) {x : Wrote} → x ≡ lengthCall c t → r ≡ answerNumber (x .answer) → said r (oneWord (x .len)) [] ≡ lengthSaid w t
+    pub length-said : (t : List ℕ) {x : Wrote} {n : List ℕ} → x ≡ lengthCall c t → (r ≡ answerNumber (x .answer)) × (n ≡ x .len ∷ []) → said r (n ∷ []) [] ≡ lengthSaid w t
     unfolding lengthSaid lengthFound
-    length-said t g p = rw p (ap lengthFound (g ∙ ap (λ (k : Counters). lengthCall k t) s) ∙ over-counters w _ _ e)
+    length-said t g p = rw (p .0, p .1) (ap lengthFound (g ∙ ap (λ (k : Counters). lengthCall k t) s) ∙ over-counters w _ _ e)
 
-    pub serialize-said : (t out : List ℕ) {x : Wrote} {u : List ℕ} → outcome x u ≡ serializeCall c t out → r ≡ answerNumber (x .answer)
-        → said r (oneWord (x .len)) (u ∷ []) ≡ serializeSaid w t out
+    pub serialize-said : (t out : List ℕ) {x : Wrote} {u n : List ℕ} → outcome x u ≡ serializeCall c t out → (r ≡ answerNumber (x .answer)) × (n ≡ x .len ∷ [])
+        → said r (n ∷ []) (u ∷ []) ≡ serializeSaid w t out
     unfolding serializeSaid writtenSaid
-    serialize-said t out g p = rw p (ap writtenSaid (g ∙ ap (λ (k : Counters). serializeCall k t out) s) ∙ over-counters w _ _ e)
+    serialize-said t out g p = rw (p .0, p .1) (ap writtenSaid (g ∙ ap (λ (k : Counters). serializeCall k t out) s) ∙ over-counters w _ _ e)
 
   -- a snapshot that is taken, and one that is refused
   module _ (bs t : List ℕ) {u : List ℕ} {x : Applied} (g : changed x u ≡ deserializeCall (standard .base) bs t) where

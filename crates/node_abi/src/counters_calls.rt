@@ -1,7 +1,10 @@
 // The counters' calls.
+use counters::Applied;
 use counters::CounterMaintenance;
+use counters::Got;
 use counters::Idx;
 use counters::NextIdx;
+use counters::Shrunk;
 use state_words::broken;
 use state_words::counters_of;
 use state_words::put_counters;
@@ -9,10 +12,11 @@ ghost use mathlib.Core.Path.{_≡_};
 ghost use mathlib.Core.Bool.{true};
 ghost use mathlib.Core.List.{[], _∷_};
 ghost use lib.ListN.{length};
+ghost use Rattle.base.specs.Answers.{answerNumber};
 ghost use Rattle.counters.specs.Layout as layout;
 ghost use Rattle.counters.specs.Maintenance.{standard, shouldShrink, adjustShrinkThreshold};
-ghost use Rattle.state_words.specs.Words.{countersOf, said};
-ghost use Rattle.node_abi.specs.CountersSaid.{bit, newSaid, allocSaid, getSaid, batchSaid, shrinkSaid};
+ghost use Rattle.state_words.specs.Words.{countersOf, countersWords, said};
+ghost use Rattle.node_abi.specs.CountersSaid.{bit, decisions, newSaid, allocSaid, getSaid, batchSaid, shrinkSaid};
 
 // Counters with nothing stored, whose next index is handed over.
 #[no_mangle]
@@ -39,9 +43,18 @@ pub extern "C" fn selvaigo_alloc_idx(state: &mut [u64], idx: &mut [u64; 1]) -> u
     let c = counters_of(state);
     let x = counter_table::alloc_idx(c);
     *idx = [x.idx.0];
-    let d = x.counters;
-    put_counters(state, d);
+    let after = x.counters;
+    put_counters(state, after);
     let a = x.answer;
+    a.number()
+}
+
+// A count that was read is written, and its answer's number returned.
+fn put_got(got: Got, count: &mut [u64; 1]) -> u8
+    ensures { λ r. ⌜ (r ≡ answerNumber (got .answer)) × (now (count .exit) ≡ got .count .0 ∷ []) ⌝ }
+{
+    *count = [got.count.0];
+    let a = got.answer;
     a.number()
 }
 
@@ -56,9 +69,7 @@ pub extern "C" fn selvaigo_get(state: &[u64], counts: &[u64], idx: u64, count: &
     }
     let c = counters_of(state);
     let x = counter_table::get(c, counts, Idx(idx));
-    *count = [x.count.0];
-    let a = x.answer;
-    a.number()
+    put_got(x, count)
 }
 
 // The same, where the record and the table hold a state.
@@ -74,8 +85,17 @@ pub extern "C" fn selvaigo_get_held(
 {
     let c = counters_of(state);
     let x = counter_table::get_held(c, counts, Idx(idx));
-    *count = [x.count.0];
-    let a = x.answer;
+    put_got(x, count)
+}
+
+// The record that a batch leaves is written, and its answer's number returned.
+fn put_applied(applied: Applied, state: &mut [u64]) -> u8
+    requires { ⌜ length (now state) ≡ 13 ⌝ }
+    ensures { λ r. ⌜ (r ≡ answerNumber (applied .answer)) × (now (state .exit) ≡ countersWords (applied .counters)) ⌝ }
+{
+    let c = applied.counters;
+    put_counters(state, c);
+    let a = applied.answer;
     a.number()
 }
 
@@ -89,10 +109,7 @@ pub extern "C" fn selvaigo_apply_batch(state: &mut [u64], counts: &mut [u64], ba
     }
     let c = counters_of(state);
     let x = counter_batch::apply_batch(c, counts, batch);
-    let d = x.counters;
-    put_counters(state, d);
-    let a = x.answer;
-    a.number()
+    put_applied(x, state)
 }
 
 // The same, where the record and the table hold a state.
@@ -107,9 +124,29 @@ pub extern "C" fn selvaigo_apply_batch_held(
 {
     let c = counters_of(state);
     let x = counter_batch::apply_batch_held(c, counts, batch);
-    let d = x.counters;
-    put_counters(state, d);
-    let a = x.answer;
+    put_applied(x, state)
+}
+
+// The nine decisions and the record after them are written, and the answer's number returned.
+fn put_shrunk(decided: Shrunk, state: &mut [u64], shrunk: &mut [u64; 9]) -> u8
+    requires { ⌜ length (now state) ≡ 13 ⌝ }
+    ensures { λ r. ⌜ (r ≡ answerNumber (decided .answer)) × (now (shrunk .exit) ≡ decisions (decided .alive) (decided .small)) × (now (state .exit) ≡ countersWords (decided .counters)) ⌝ }
+{
+    let s = decided.small;
+    *shrunk = [
+        decided.alive as u64,
+        s[0] as u64,
+        s[1] as u64,
+        s[2] as u64,
+        s[3] as u64,
+        s[4] as u64,
+        s[5] as u64,
+        s[6] as u64,
+        s[7] as u64,
+    ];
+    let c = decided.counters;
+    put_counters(state, c);
+    let a = decided.answer;
     a.number()
 }
 
@@ -129,22 +166,7 @@ pub extern "C" fn selvaigo_shrink_if_needed(
     }
     let c = counters_of(state);
     let x = counter_shrink::shrink_if_needed(c, counts, bytes_saved);
-    let s = x.small;
-    *shrunk = [
-        x.alive as u64,
-        s[0] as u64,
-        s[1] as u64,
-        s[2] as u64,
-        s[3] as u64,
-        s[4] as u64,
-        s[5] as u64,
-        s[6] as u64,
-        s[7] as u64,
-    ];
-    let d = x.counters;
-    put_counters(state, d);
-    let a = x.answer;
-    a.number()
+    put_shrunk(x, state, shrunk)
 }
 
 // The same, where the record and the table hold a state.
@@ -160,22 +182,7 @@ pub extern "C" fn selvaigo_shrink_if_needed_held(
 {
     let c = counters_of(state);
     let x = counter_shrink::shrink_held(c, counts, bytes_saved);
-    let s = x.small;
-    *shrunk = [
-        x.alive as u64,
-        s[0] as u64,
-        s[1] as u64,
-        s[2] as u64,
-        s[3] as u64,
-        s[4] as u64,
-        s[5] as u64,
-        s[6] as u64,
-        s[7] as u64,
-    ];
-    let d = x.counters;
-    put_counters(state, d);
-    let a = x.answer;
-    a.number()
+    put_shrunk(x, state, shrunk)
 }
 
 // Whether so many removals call for shrinking: 1 or 0.

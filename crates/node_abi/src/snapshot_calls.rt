@@ -1,5 +1,6 @@
 // The calls for the counters' snapshots.
 use base::Answer;
+use base::Wrote;
 use state_words::broken;
 use state_words::counters_of;
 use state_words::put_counters;
@@ -7,9 +8,19 @@ ghost use mathlib.Core.Path.{_≡_};
 ghost use mathlib.Core.Bool.{true};
 ghost use mathlib.Core.List.{[], _∷_};
 ghost use lib.ListN.{length};
+ghost use Rattle.base.specs.Answers.{answerNumber};
 ghost use Rattle.counters.specs.Layout as layout;
 ghost use Rattle.state_words.specs.Words.{countersOf, said};
 ghost use Rattle.node_abi.specs.CountersSaid.{lengthSaid, serializeSaid, deserializeSaid};
+
+// A snapshot's length is written, and the answer's number returned.
+fn put_wrote(wrote: Wrote, len: &mut [u64; 1]) -> u8
+    ensures { λ r. ⌜ (r ≡ answerNumber (wrote .answer)) × (now (len .exit) ≡ wrote .len ∷ []) ⌝ }
+{
+    *len = [wrote.len as u64];
+    let a = wrote.answer;
+    a.number()
+}
 
 // How many bytes the snapshot takes.
 #[no_mangle]
@@ -22,9 +33,7 @@ pub extern "C" fn selvaigo_serialized_len(state: &[u64], counts: &[u64], len: &m
     }
     let c = counters_of(state);
     let x = snapshot_write::serialized_len(c, counts);
-    *len = [x.len as u64];
-    let a = x.answer;
-    a.number()
+    put_wrote(x, len)
 }
 
 // The same, where the record and the table hold a state.
@@ -59,9 +68,7 @@ pub extern "C" fn selvaigo_serialize(
     }
     let c = counters_of(state);
     let x = snapshot_write::serialize(c, counts, out);
-    *len = [x.len as u64];
-    let a = x.answer;
-    a.number()
+    put_wrote(x, len)
 }
 
 // The same, where the record and the table hold a state.
@@ -77,9 +84,7 @@ pub extern "C" fn selvaigo_serialize_held(
 {
     let c = counters_of(state);
     let x = snapshot_write::serialize_held(c, counts, out);
-    *len = [x.len as u64];
-    let a = x.answer;
-    a.number()
+    put_wrote(x, len)
 }
 
 // The state that a snapshot holds, into a record and a table of any content. A refusal changes neither.

@@ -19,11 +19,8 @@ counters-of-requires c κs = search needs
 apply-batch-requires : tie.Need-apply-batch-requires
 apply-batch-requires c κs = search needs
 
-put-counters-requires : tie.Need-put-counters-requires
-put-counters-requires c κs = search needs
-
-number-requires : tie.Need-number-requires
-number-requires c κs = search needs
+put-applied-requires : tie.Need-put-applied-requires
+put-applied-requires c κs = search needs
 
 same-length : tie.Need-same-length
 same-length c = search needs
@@ -33,9 +30,9 @@ same-length-2 c = search needs
 
 returns-2 : tie.Need-returns-2
 returns-2 c =
-    let s = c .before .before .before .before .before .before .before .before .before .before .before .before .before .before .before .before in
+    let s = c .before .before .before .before .before .before .before .before .before .before .before .before .before .before in
     let a = s .args in
-    batch-said (a .state .now) (c .before .before .before .before .before .before .before .before .before .before .before .before .if1 .left) (c .before .before .before .before .before .before .before .before .before .before .counters-of .ensures) (a .counts .now) (a .batch .now) (c .before .before .before .before .before .before .before .before .apply-batch .ensures) (c .number .ensures) (c .before .before .before .put-counters .ensures)
+    batch-said (a .state .now) (c .before .before .before .before .before .before .before .before .before .before .if1 .left) (c .before .before .before .before .before .before .before .before .counters-of .ensures) (a .counts .now) (a .batch .now) (c .before .before .before .before .before .before .apply-batch .ensures) (c .before .before .put-applied .ensures)
 
 pub selvaigo-apply-batch-spec : {M : Type 1} → statement M
 selvaigo-apply-batch-spec =
@@ -45,8 +42,7 @@ selvaigo-apply-batch-spec =
     returns
     counters-of-requires
     apply-batch-requires
-    put-counters-requires
-    number-requires
+    put-applied-requires
     same-length
     same-length-2
     returns-2)

@@ -10,11 +10,8 @@ counters-of-requires c κs = search needs
 apply-batch-held-requires : tie.Need-apply-batch-held-requires
 apply-batch-held-requires c κs = rw (c .before .counters-of .ensures) (c .before .before .before .before .before .before .pre .1)
 
-put-counters-requires : tie.Need-put-counters-requires
-put-counters-requires c κs = search needs
-
-number-requires : tie.Need-number-requires
-number-requires c κs = search needs
+put-applied-requires : tie.Need-put-applied-requires
+put-applied-requires c κs = search needs
 
 same-length : tie.Need-same-length
 same-length c = search needs
@@ -24,9 +21,9 @@ same-length-2 c = search needs
 
 returns : tie.Need-returns
 returns c =
-    let s = c .before .before .before .before .before .before .before .before .before .before .before .before .before .before .before in
+    let s = c .before .before .before .before .before .before .before .before .before .before .before .before .before in
     let a = s .args in
-    batch-said (a .state .now) (s .pre .0) (c .before .before .before .before .before .before .before .before .before .before .counters-of .ensures) (a .counts .now) (a .batch .now) (c .before .before .before .before .before .before .before .before .apply-batch-held .ensures) (c .number .ensures) (c .before .before .before .put-counters .ensures)
+    batch-said (a .state .now) (s .pre .0) (c .before .before .before .before .before .before .before .before .counters-of .ensures) (a .counts .now) (a .batch .now) (c .before .before .before .before .before .before .apply-batch-held .ensures) (c .before .before .put-applied .ensures)
 
 pub selvaigo-apply-batch-held-spec : {M : Type 1} → statement M
 selvaigo-apply-batch-held-spec =
@@ -34,8 +31,7 @@ selvaigo-apply-batch-held-spec =
     (tie.spec
     counters-of-requires
     apply-batch-held-requires
-    put-counters-requires
-    number-requires
+    put-applied-requires
     same-length
     same-length-2
     returns)

@@ -19,16 +19,16 @@ counters-of-requires c κs = search needs
 get-requires : tie.Need-get-requires
 get-requires c κs = search needs
 
-number-requires : tie.Need-number-requires
-number-requires c κs = search needs
+put-got-requires : tie.Need-put-got-requires
+put-got-requires c κs = search needs
 
 returns-2 : tie.Need-returns-2
 returns-2 c =
     let s = c .before .before .before .before .before .before .before in
     let a = s .args in
-    get-said (a .state .now) (c .before .before .before .before .if1 .left) (c .before .before .before .counters-of .ensures) (a .counts .now) (a .idx) (c .before .before .get .ensures) (c .number .ensures)
+    get-said (a .state .now) (c .before .before .before .before .if1 .left) (c .before .before .before .counters-of .ensures) (a .counts .now) (a .idx) (c .before .before .get .ensures) (c .put-got .ensures)
 
 pub selvaigo-get-spec : {M : Type 1} → statement M
 selvaigo-get-spec =
     tie.close
-    (tie.spec broken-requires returns counters-of-requires get-requires number-requires returns-2)
+    (tie.spec broken-requires returns counters-of-requires get-requires put-got-requires returns-2)

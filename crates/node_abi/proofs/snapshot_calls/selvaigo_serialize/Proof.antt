@@ -19,8 +19,8 @@ counters-of-requires c κs = search needs
 serialize-requires : tie.Need-serialize-requires
 serialize-requires c κs = search needs
 
-number-requires : tie.Need-number-requires
-number-requires c κs = search needs
+put-wrote-requires : tie.Need-put-wrote-requires
+put-wrote-requires c κs = search needs
 
 same-length : tie.Need-same-length
 same-length c = search needs
@@ -29,7 +29,7 @@ returns-2 : tie.Need-returns-2
 returns-2 c =
     let s = c .before .before .before .before .before .before .before .before .before .before .before in
     let a = s .args in
-    serialize-said (a .state .now) (c .before .before .before .before .before .before .before .if1 .left) (c .before .before .before .before .before .before .counters-of .ensures) (a .counts .now) (a .out .now) (c .before .before .before .before .serialize .ensures) (c .number .ensures)
+    serialize-said (a .state .now) (c .before .before .before .before .before .before .before .if1 .left) (c .before .before .before .before .before .before .counters-of .ensures) (a .counts .now) (a .out .now) (c .before .before .before .before .serialize .ensures) (c .put-wrote .ensures)
 
 pub selvaigo-serialize-spec : {M : Type 1} → statement M
 selvaigo-serialize-spec =
@@ -39,6 +39,6 @@ selvaigo-serialize-spec =
     returns
     counters-of-requires
     serialize-requires
-    number-requires
+    put-wrote-requires
     same-length
     returns-2)

@@ -10,8 +10,8 @@ counters-of-requires c κs = search needs
 serialize-held-requires : tie.Need-serialize-held-requires
 serialize-held-requires c κs = rw (c .before .counters-of .ensures) (c .before .before .before .before .before .pre .1)
 
-number-requires : tie.Need-number-requires
-number-requires c κs = search needs
+put-wrote-requires : tie.Need-put-wrote-requires
+put-wrote-requires c κs = search needs
 
 same-length : tie.Need-same-length
 same-length c = search needs
@@ -20,9 +20,9 @@ returns : tie.Need-returns
 returns c =
     let s = c .before .before .before .before .before .before .before .before .before .before in
     let a = s .args in
-    serialize-said (a .state .now) (s .pre .0) (c .before .before .before .before .before .before .counters-of .ensures) (a .counts .now) (a .out .now) (c .before .before .before .before .serialize-held .ensures) (c .number .ensures)
+    serialize-said (a .state .now) (s .pre .0) (c .before .before .before .before .before .before .counters-of .ensures) (a .counts .now) (a .out .now) (c .before .before .before .before .serialize-held .ensures) (c .put-wrote .ensures)
 
 pub selvaigo-serialize-held-spec : {M : Type 1} → statement M
 selvaigo-serialize-held-spec =
     tie.close
-    (tie.spec counters-of-requires serialize-held-requires number-requires same-length returns)
+    (tie.spec counters-of-requires serialize-held-requires put-wrote-requires same-length returns)

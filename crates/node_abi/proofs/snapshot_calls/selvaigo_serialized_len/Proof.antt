@@ -19,14 +19,14 @@ counters-of-requires c κs = search needs
 serialized-len-requires : tie.Need-serialized-len-requires
 serialized-len-requires c κs = search needs
 
-number-requires : tie.Need-number-requires
-number-requires c κs = search needs
+put-wrote-requires : tie.Need-put-wrote-requires
+put-wrote-requires c κs = search needs
 
 returns-2 : tie.Need-returns-2
 returns-2 c =
     let s = c .before .before .before .before .before .before .before in
     let a = s .args in
-    length-said (a .state .now) (c .before .before .before .before .if1 .left) (c .before .before .before .counters-of .ensures) (a .counts .now) (c .before .before .serialized-len .ensures) (c .number .ensures)
+    length-said (a .state .now) (c .before .before .before .before .if1 .left) (c .before .before .before .counters-of .ensures) (a .counts .now) (c .before .before .serialized-len .ensures) (c .put-wrote .ensures)
 
 pub selvaigo-serialized-len-spec : {M : Type 1} → statement M
 selvaigo-serialized-len-spec =
@@ -36,5 +36,5 @@ selvaigo-serialized-len-spec =
     returns
     counters-of-requires
     serialized-len-requires
-    number-requires
+    put-wrote-requires
     returns-2)

@@ -20,7 +20,7 @@ returns c =
     let a = s .args in
     let k = c .before .before .counters-of in
     let h : holds (k .result) (a .counts .now) ≡ true = rw (k .ensures) (s .pre .1) in
-    length-said (a .state .now) (s .pre .0) (k .ensures) (a .counts .now) (length-taken (k .result) (a .counts .now) h (c .before .serialized-len-held .result) (c .before .serialized-len-held .ensures)) refl
+    length-said (a .state .now) (s .pre .0) (k .ensures) (a .counts .now) (length-taken (k .result) (a .counts .now) h (c .before .serialized-len-held .result) (c .before .serialized-len-held .ensures)) (refl, refl)
 
 pub selvaigo-serialized-len-held-spec : {M : Type 1} → statement M
 selvaigo-serialized-len-held-spec =
