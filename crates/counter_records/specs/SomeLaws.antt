@@ -29,9 +29,6 @@ module _ (many : Bool) (bs : List CounterTransition) (len : ℕ) (es : List Entr
   abbrev rows : List Entry
   rows = rowsOf countRow n t
 
-  pub few-rows : n * 2 ≤ len
-  few-rows = rw (s .long) at (s .order .laid .fits)
-
   module _ (h : i < length bs) where
     abbrev x : CounterTransition
     x = getD bs i (transition 0 0 0)

@@ -1,5 +1,5 @@
-// A batch that is lent as a slice of records. `apply_batch` only walks over the records; all work is done by functions on a
-// record's index, old and new, which are told where the walk is by what it holds.
+// A batch that is lent as a slice of records. `apply_batch` only walks over the records, since what takes such a slice is proved by
+// hand; all work is done by functions on a record's index, old and new, which are told where the walk is by what it holds.
 //
 // The walk looks at each record, and asks the later ones for its index; after the last come the tests, in their order, each over
 // the whole batch. Then it applies the records that free a row, and at last those that store one.

@@ -90,7 +90,7 @@ abbrev stayed : Stays (apply-batch.ended .signature .params) (apply-batch.ended 
 stayed = (stay-none (λ _. K.the-row) still, (stay-slice (0 ∷ []) tt (plain (λ _. u64)), (stay-none-slice (1 ∷ []) tt (plain (λ _. T.the-row)) still, tt)))
 
 module _ {M : Type 1} (𝓤 : URA M) (H : Heap 𝓤) (A : Atoms 𝓤) (mem : Memory → SProp 𝓤) (run : Routine → Fun 𝓤) where
-  -- the contracts that the proof cites
+  -- what the three callees promise
   abbrev Begin : Contract 𝓤
   Begin = tripleOf 𝓤 H A begin.signature (begin.spec 𝓤 H A mem run)
 
@@ -142,10 +142,10 @@ module _ {M : Type 1} (𝓤 : URA M) (H : Heap 𝓤) (A : Atoms 𝓤) (W : Given
   abbrev s₁ : Val
   s₁ = sliceVal (b₁, o₁) (length bs)
 
-  abbrev Arg : Type 0
-  Arg = Counters × (RefT (List ℕ) × (RefT (List CounterTransition) × Unit {0}))
+  abbrev Params : Type 0
+  Params = Counters × (RefT (List ℕ) × (RefT (List CounterTransition) × Unit {0}))
 
-  abbrev a : Arg
+  abbrev a : Params
   a = (c, (t γ₀ ys, (d, tt)))
 
   abbrev at : Vals apply-batch.signature (κ₀, (κ₁, tt))
@@ -179,18 +179,18 @@ module _ {M : Type 1} (𝓤 : URA M) (H : Heap 𝓤) (A : Atoms 𝓤) (W : Given
       nothing ! $ move ! (3 ∷ 0 ∷ []) $ fjoin ! $ move ! (2 ∷ 0 ∷ []) $ fjoin ! $ owned ! K.the-row (Is K.the-row) ((LL.makes K.the-type K′.the-plain) 𝓤 H A) c _ is-c $ fjoin ! $ frame ! $ done !
 
   -- ---- the loop
-  -- how far it is
-  record Upto : Type 0 where
+  -- how far the walk is
+  record Place : Type 0 where
     s : Walk
     zs : List ℕ
     is : Is S.the-row s (S′.lowered s ∷ [])
     inv : Inv c ys bs s zs
 
-  abbrev Nearer : Upto → Upto → Type 0
-  Nearer v u = left bs (v .s) < left bs (u .s)
+  abbrev Closer : Place → Place → Type 0
+  Closer v u = left bs (v .s) < left bs (u .s)
 
-  Nearer-wf : WellFounded Nearer
-  Nearer-wf = InvImage·wf (λ (u : Upto). left bs (u .s)) (Nat·lt-wfRel .wf)
+  closer-wf : WellFounded Closer
+  closer-wf = InvImage·wf (λ (u : Place). left bs (u .s)) (Nat·lt-wfRel .wf)
 
   -- a walk's machine value is the one that is written out
   lowers : (r : Walk) (w : Val) → Is S.the-row r (w ∷ []) → Is S.the-row r (S′.lowered r ∷ [])
@@ -213,7 +213,7 @@ module _ {M : Type 1} (𝓤 : URA M) (H : Heap 𝓤) (A : Atoms 𝓤) (W : Given
   abbrev Begun : Walk → List ℕ → Type 0
   Begun r l = (r ≡ begun c ys (length bs)) × (l ≡ ys)
 
-  abbrev start : (r : Walk) (l : List ℕ) → Is S.the-row r (S′.lowered r ∷ []) → Begun r l → Upto
+  abbrev start : (r : Walk) (l : List ℕ) → Is S.the-row r (S′.lowered r ∷ []) → Begun r l → Place
   start r l is e = record { s = r; zs = l; is = is; inv = subst (λ (p : Walk × List ℕ). Inv c ys bs (p .0) (p .1)) (sym (λ i. (e .0 i, e .1 i))) (inv-begin c ys bs limits) }
 
   module _ (𝓣 : Tables 𝓤 H) (fm : FmC 𝓤 H (W .laws) (𝓣 .C)) (known-begin : Triple 𝓤 (𝓣 .C #begin) (Begin 𝓤 H A mem run)) (known-turn : Triple 𝓤 (𝓣 .C #turn) (Turn 𝓤 H A mem run)) (known-finish : Triple 𝓤 (𝓣 .C #finish) (Finish 𝓤 H A mem run))
@@ -224,12 +224,12 @@ module _ {M : Type 1} (𝓤 : URA M) (H : Heap 𝓤) (A : Atoms 𝓤) (W : Given
     abbrev Λ : Loops 𝓤 H
     Λ = 𝓣 .Λ
 
-    abbrev En : Env 𝓤 H
-    En = (R′.mir, l₀) ∷ (K′.mir, l₁) ∷ (slice₀, l₂) ∷ (slice₁, l₃) ∷ (S′.mir, l₄) ∷ (T′.mir, l₅) ∷ (again-ref, l₆) ∷ (again-slice, l₇) ∷ (word, l₈) ∷ (word, l₉) ∷ (tyBool, l₁₀) ∷ (tyPtr, l₁₁) ∷ (T′.mir, l₁₂) ∷ (again-ref, l₁₃) ∷ (again-slice, l₁₄) ∷ []
+    abbrev Locals : Env 𝓤 H
+    Locals = (R′.mir, l₀) ∷ (K′.mir, l₁) ∷ (slice₀, l₂) ∷ (slice₁, l₃) ∷ (S′.mir, l₄) ∷ (T′.mir, l₅) ∷ (again-ref, l₆) ∷ (again-slice, l₇) ∷ (word, l₈) ∷ (word, l₉) ∷ (tyBool, l₁₀) ∷ (tyPtr, l₁₁) ∷ (T′.mir, l₁₂) ∷ (again-ref, l₁₃) ∷ (again-slice, l₁₄) ∷ []
 
-    -- the locals, from the last to the first, then what the references own, and the tokens
-    abbrev At : Upto → List (Item 𝓤)
-    At u = ‵ (froom again-slice l₁₄ 0) ∷ ‵ (fdies again-slice l₁₄) ∷ ‵ (froom again-ref l₁₃ 0) ∷ ‵ (fdies again-ref l₁₃)
+    -- before a record: the locals, the last one first, what the two references own, and their tokens
+    abbrev Before : Place → List (Item 𝓤)
+    Before u = ‵ (froom again-slice l₁₄ 0) ∷ ‵ (fdies again-slice l₁₄) ∷ ‵ (froom again-ref l₁₃ 0) ∷ ‵ (fdies again-ref l₁₃)
         ∷ ‵ (froom T′.mir l₁₂ 0) ∷ ‵ (fdies T′.mir l₁₂) ∷ ‵ (froom tyPtr l₁₁ 0) ∷ ‵ (fdies tyPtr l₁₁)
         ∷ ‵ (froom tyBool l₁₀ 0) ∷ ‵ (fdies tyBool l₁₀) ∷ ‵ (froom word l₉ 0) ∷ ‵ (fdies word l₉)
         ∷ ‵ (froom word l₈ 0) ∷ ‵ (fdies word l₈) ∷ ‵ (froom again-slice l₇ 0) ∷ ‵ (fdies again-slice l₇)
@@ -239,9 +239,9 @@ module _ {M : Type 1} (𝓤 : URA M) (H : Heap 𝓤) (A : Atoms 𝓤) (W : Given
         ∷ ‵ (froom R′.mir l₀ 0) ∷ ‵ (fdies R′.mir l₀)
         ∷ ‵ (Own₀ (u .zs)) ∷ ‵ (flft κ₀ q₀) ∷ ‵ Own₁ ∷ ‵ (flft κ₁ q₁) ∷ []
 
-    -- a turn's postcondition: it ends nearer to the end, or the loop is left and the rest of the body runs
-    abbrev Turned : Upto → Out → SProp 𝓤
-    Turned u = afterTurn 𝓤 H (Below 𝓤 H A Nearer At u) (afterBlock 𝓤 H (afterSeq 𝓤 H (Wp 𝓤 H C Λ En t-6 (atReturn 𝓤 H En Post)) (atReturn 𝓤 H En Post)))
+    -- what a turn comes to: it ends closer to the end, or the loop is left and the rest of the body runs
+    abbrev TurnPost : Place → Out → SProp 𝓤
+    TurnPost u = afterTurn 𝓤 H (Below 𝓤 H A Closer Before u) (afterBlock 𝓤 H (afterSeq 𝓤 H (Wp 𝓤 H C Λ Locals t-6 (atReturn 𝓤 H Locals Post)) (atReturn 𝓤 H Locals Post)))
 
     -- ---- the turn that leaves the loop, and the rest of the body
     abbrev to-finish : Walk → Finish 𝓤 H A mem run .Ghost
@@ -251,13 +251,13 @@ module _ {M : Type 1} (𝓤 : URA M) (H : Heap 𝓤) (A : Atoms 𝓤) (W : Given
     goes-finish s is =
         qed W [] ∵ nothing ! $ nothing ! $ owned ! S.the-row (Is S.the-row) ((LL.makes S.the-type S′.the-plain) 𝓤 H A) s _ is $ fjoin ! $ move ! (1 ∷ 0 ∷ []) $ join ! $ frame ! $ done !
 
-    ends : (u : Upto) → length bs ≤ u .s .at → Sq W (At u) (runs C Λ En turn-1 (anyQ (Turned u)))
+    ends : (u : Place) → length bs ≤ u .s .at → Sq W (Before u) (runs C Λ Locals turn-1 (anyQ (TurnPost u)))
     unfolding afterTurn
     ends u h =
         assigns ! (of-opd ! (load ! (from ! (fld ! refl (stop !))) (look-in ! 22 (sub ! 1 refl (whole !))))) (from ! (stop !)) (init ! 10 refl (tt, record { fits = room₁ .0 })) $
         assigns ! (bin ! (load ! (from ! (fld ! refl (stop !))) (look-in ! 20 (sub ! 1 refl (whole !)))) (load ! (from ! (stop !)) (look ! 10 refl)) tt) (from ! (stop !)) (init ! 8 refl (tt, tt)) $
         rewrite ! 8 (λ (y : Bool). ‵ (fat fullShare tyBool l₁₀ 0 (vbool y))) (le-ltb (u .s .at) (length bs) h) refl $
-        leaves-loop ! (load ! (from ! (stop !)) (look ! 8 refl)) $ exec ! C Λ En t-6 (atRet En Post) $
+        leaves-loop ! (load ! (from ! (stop !)) (look ! 8 refl)) $ exec ! C Λ Locals t-6 (atRet Locals Post) $
         use0 W (raw (Finish 𝓤 H A mem run .pre (to-finish (u .s)))) (goes-finish (u .s) (u .is)) $
         -- [what `finish` asks; the locals; …]
         calls-at ! fm (Finish 𝓤 H A mem run) known-finish (to-finish (u .s)) (and-then ! (load ! (from ! (stop !)) (look ! 21 refl)) (no-more !)) (λ w.
@@ -272,7 +272,7 @@ module _ {M : Type 1} (𝓤 : URA M) (H : Heap 𝓤) (A : Atoms 𝓤) (W : Given
         by ! (exits r w (u .zs) (inv-len c ys bs (u .s) (u .zs) (u .inv) .0) (subst (λ (r′ : Applied). changed r′ (u .zs) ≡ batchCall c ys (wordsOf bs)) (sym e) (inv-end c ys bs (u .s) (u .zs) (u .inv) h)))))))
 
     -- ---- a turn with one record
-    module _ (u : Upto) (h : u .s .at < length bs) where
+    module _ (u : Place) (h : u .s .at < length bs) where
       abbrev zs : List ℕ
       zs = u .zs
 
@@ -280,8 +280,8 @@ module _ {M : Type 1} (𝓤 : URA M) (H : Heap 𝓤) (A : Atoms 𝓤) (W : Given
       rec = getD bs (u .s .at) (transition 0 0 0)
 
       -- the record's machine value
-      abbrev mach : Val
-      mach = LL.tuple-val T.the-type T′.the-laws (T.the-type .to rec)
+      abbrev recordVal : Val
+      recordVal = LL.tuple-val T.the-type T′.the-laws (T.the-type .to rec)
 
       bytes-fit : u .s .at * 24 < 2 ^ 64
       bytes-fit = omega (arith, room₁ .1)
@@ -314,19 +314,19 @@ module _ {M : Type 1} (𝓤 : URA M) (H : Heap 𝓤) (A : Atoms 𝓤) (W : Given
           owned ! u64 (Is u64) (uint-makes 𝓤 H A W w64) (rec .idx .0) _ (refl, f .0) $ fjoin ! $ owned ! S.the-row (Is S.the-row) ((LL.makes S.the-type S′.the-plain) 𝓤 H A) (u .s) _ (u .is) $ fjoin ! $
           move ! (1 ∷ 0 ∷ []) $ fjoin ! $ done !
 
-      abbrev after : (r : Walk) (l : List ℕ) → Is S.the-row r (S′.lowered r ∷ []) → Told r l → Upto
+      abbrev after : (r : Walk) (l : List ℕ) → Is S.the-row r (S′.lowered r ∷ []) → Told r l → Place
       after r l is e =
           record { s = r; zs = l; is = is; inv = subst (λ (p : Walk × List ℕ). Inv c ys bs (p .0) (p .1)) (sym (λ i. (e .0 i, e .1 i))) (inv-turn c ys bs (u .s) zs (u .inv) h) }
 
-      nearer : (r : Walk) (l : List ℕ) (is : Is S.the-row r (S′.lowered r ∷ [])) (e : Told r l) → left bs r < left bs (u .s)
-      nearer r l is e = subst (λ (r′ : Walk). left bs r′ < left bs (u .s)) (sym (e .0)) (inv-measure c ys bs (u .s) zs (u .inv) h)
+      closer : (r : Walk) (l : List ℕ) (is : Is S.the-row r (S′.lowered r ∷ [])) (e : Told r l) → left bs r < left bs (u .s)
+      closer r l is e = subst (λ (r′ : Walk). left bs r′ < left bs (u .s)) (sym (e .0)) (inv-measure c ys bs (u .s) zs (u .inv) h)
 
-      fields-fit : Is T.the-row rec (mach ∷ []) → (rec .idx .0 < 2 ^ 64) × (rec .«old_raw» < 2 ^ 64) × (rec .«new_raw» < 2 ^ 64)
+      fields-fit : Is T.the-row rec (recordVal ∷ []) → (rec .idx .0 < 2 ^ 64) × (rec .«old_raw» < 2 ^ 64) × (rec .«new_raw» < 2 ^ 64)
       fields-fit g =
           let w = LL.owed T.the-type T′.the-laws rec _ g in
           (w .0 .1 .1 .0 .1, w .1 .0 .1, w .1 .1 .0 .1)
 
-      more : Sq W (At u) (runs C Λ En turn-1 (anyQ (Turned u)))
+      more : Sq W (Before u) (runs C Λ Locals turn-1 (anyQ (TurnPost u)))
       unfolding afterTurn
       more =
           assigns ! (of-opd ! (load ! (from ! (fld ! refl (stop !))) (look-in ! 22 (sub ! 1 refl (whole !))))) (from ! (stop !)) (init ! 10 refl (tt, record { fits = room₁ .0 })) $
@@ -343,7 +343,7 @@ module _ {M : Type 1} (𝓤 : URA M) (H : Heap 𝓤) (A : Atoms 𝓤) (W : Given
           -- [the record; what it owns; the others; what shuts; the fractured borrow; own b; the locals; own t; lft0]
           assigns ! (of-opd ! (load ! (from ! (hop ! (look ! 12 refl) (stop !))) (look-raw ! 0 refl))) (from ! (stop !)) (init ! 10 refl (LL.lawful T.the-type T′.the-laws 𝓤 H A W .typed rec _ g .0)) $
           assigns ! (of-opd ! (load ! (from ! (stop !)) (look ! 10 refl))) (from ! (stop !)) (init ! 24 refl (LL.lawful T.the-type T′.the-laws 𝓤 H A W .typed rec _ g .0)) $
-          elem-back ! T.the-row q′ bs (u .s .at) (transition 0 0 0) (mach ∷ []) b₁ o₁ h $ shuts-slice ! tt T.the-row q′ bs b₁ o₁ $ move ! (1 ∷ []) $ drop ! $
+          elem-back ! T.the-row q′ bs (u .s .at) (transition 0 0 0) (recordVal ∷ []) b₁ o₁ h $ shuts-slice ! tt T.the-row q′ bs b₁ o₁ $ move ! (1 ∷ []) $ drop ! $
           -- [lft1; own b; the locals; own t; lft0]
           assigns ! (addr ! (from ! (fld ! refl (hop ! (look-in ! 26 (sub ! 0 refl (whole !))) (stop !))))) (from ! (stop !)) (init ! 4 refl (tt, tt)) $
           assigns ! (agg ! (and-then ! (load ! (from ! (stop !)) (look ! 4 refl)) (and-then ! (load ! (from ! (fld ! refl (stop !))) (look-in ! 26 (sub ! 1 refl (whole !)))) (no-more !)))) (from ! (stop !)) (init ! 2 refl (tt, (tt, (record { fits = room₀ .0 }, tt)))) $
@@ -367,9 +367,9 @@ module _ {M : Type 1} (𝓤 : URA M) (H : Heap 𝓤) (A : Atoms 𝓤) (W : Given
           land-last ! (from ! (stop !)) (store ! 27 refl (LL.lawful S.the-type S′.the-laws 𝓤 H A W .typed r _ is .0)) $ rewrite ! 27 (λ (v : Val). ‵ (fat fullShare S′.mir l₄ 0 v)) (ap only (S′.lowers .val-is r _ is)) refl $
           forget ! 7 refl $ forget ! 9 refl $ forget ! 11 refl $ forget ! 13 refl $ forget ! 15 refl $ forget ! 17 refl $ forget ! 25 refl $
           keep ! (7 ∷ 8 ∷ 9 ∷ 10 ∷ 11 ∷ 12 ∷ 13 ∷ 14 ∷ 15 ∷ 16 ∷ 17 ∷ 18 ∷ 19 ∷ 20 ∷ 21 ∷ 22 ∷ 23 ∷ 24 ∷ 25 ∷ 26 ∷ 27 ∷ 28 ∷ 29 ∷ 30 ∷ 31 ∷ 32 ∷ 33 ∷ 34 ∷ 35 ∷ 36 ∷ 0 ∷ 1 ∷ 6 ∷ 5 ∷ []) $
-          again ! Nearer At u (after r (ls .0) (lowers r w is) e) (nearer r (ls .0) (lowers r w is) e))))))))))
+          again ! Closer Before u (after r (ls .0) (lowers r w is) e) (closer r (ls .0) (lowers r w is) e))))))))))
 
-    turns : (u : Upto) → Sq W (At u) (runs C Λ En turn-1 (anyQ (Turned u)))
+    turns : (u : Place) → Sq W (Before u) (runs C Λ Locals turn-1 (anyQ (TurnPost u)))
     turns u = elim (decLt (u .s .at) (length bs)) [
       | yes h ↦ more u h
       | no h ↦ ends u (omega arith)
@@ -388,7 +388,7 @@ module _ {M : Type 1} (𝓤 : URA M) (H : Heap 𝓤) (A : Atoms 𝓤) (W : Given
         ∷ ‵ (froom R′.mir l₀ 0) ∷ ‵ (fdies R′.mir l₀)
         ∷ ‵ (Own₀ ys) ∷ ‵ (flft κ₀ q₀) ∷ ‵ Own₁ ∷ ‵ (flft κ₁ q₁) ∷ []
 
-    opens : Sq W Passed (runs C Λ En t-1 (atRet En Post))
+    opens : Sq W Passed (runs C Λ Locals t-1 (atRet Locals Post))
     opens =
         assigns ! (addr ! (from ! (fld ! refl (hop ! (look-in ! 24 (sub ! 0 refl (whole !))) (stop !))))) (from ! (stop !)) (init ! 16 refl (tt, tt)) $
         assigns ! (agg ! (and-then ! (load ! (from ! (stop !)) (look ! 16 refl)) (and-then ! (load ! (from ! (fld ! refl (stop !))) (look-in ! 24 (sub ! 1 refl (whole !)))) (no-more !)))) (from ! (stop !)) (init ! 14 refl (tt, (tt, (record { fits = room₀ .0 }, tt)))) $
@@ -410,7 +410,7 @@ module _ {M : Type 1} (𝓤 : URA M) (H : Heap 𝓤) (A : Atoms 𝓤) (W : Given
         land ! (from ! (stop !)) (init ! 26 refl (LL.lawful S.the-type S′.the-laws 𝓤 H A W .typed r _ is .0)) $ rewrite ! 26 (λ (v : Val). ‵ (fat fullShare S′.mir l₄ 0 v)) (ap only (S′.lowers .val-is r _ is)) refl $
         forget ! 18 refl $ forget ! 20 refl $ forget ! 22 refl $
         keep ! (6 ∷ 7 ∷ 8 ∷ 9 ∷ 10 ∷ 11 ∷ 12 ∷ 13 ∷ 14 ∷ 15 ∷ 16 ∷ 17 ∷ 18 ∷ 19 ∷ 20 ∷ 21 ∷ 22 ∷ 23 ∷ 24 ∷ 25 ∷ 26 ∷ 27 ∷ 28 ∷ 29 ∷ 30 ∷ 31 ∷ 32 ∷ 33 ∷ 34 ∷ 35 ∷ 0 ∷ 1 ∷ 36 ∷ 37 ∷ []) $
-        first ! $ blocks ! $ loops ! 𝓣 Nearer Nearer-wf At turns (start r (ls .1 .0) (lowers r w is) e))))))))
+        first ! $ blocks ! $ loops ! 𝓣 Closer closer-wf Before turns (start r (ls .1 .0) (lowers r w is) e))))))))
 
   walk : (𝓣 : Tables 𝓤 H) → Triple 𝓤 (𝓣 .C #begin) (Begin 𝓤 H A mem run) → Triple 𝓤 (𝓣 .C #turn) (Turn 𝓤 H A mem run) → Triple 𝓤 (𝓣 .C #finish) (Finish 𝓤 H A mem run)
       → ent 𝓤 (onEntry 𝓤 H A apply-batch.signature (κ₀, (κ₁, tt)) (q₀, (q₁, tt)) a at) (WpFn 𝓤 H (𝓣 .C) (𝓣 .Λ) code.function (K′.lowered c ∷ s₀ ∷ s₁ ∷ []) Post)
