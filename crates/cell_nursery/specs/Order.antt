@@ -24,7 +24,7 @@ use Rattle.cell_nursery.specs.declared.Nursery.{Nursery}
 use Rattle.cell_nursery.specs.Entries.{Entry, State, empty, hashBytes, insert, remove}
 use Rattle.cell_nursery.specs.Items.{Delta, itemBytes, readInsert, deltaOf}
 use Rattle.cell_nursery.specs.ItemLaws.{readHash-append}
-use Rattle.cell_nursery.specs.Delta.{applyDelta}
+use Rattle.cell_nursery.specs.Delta.{Room, tooLong, applyDelta}
 use Rattle.cell_nursery.specs.Drain.{promotionDelay, drainBytes, listingBytes}
 use Rattle.cell_nursery.specs.Layout.{recordOf, entriesTable, waitingTable, cellsTable, roomOf}
 use Rattle.cell_nursery.specs.Calls.{Changed, DrainedOut, laidOut, onState, deltaCall, drainCall, lookupCall, listingCall}
@@ -226,13 +226,18 @@ pub record BrokenTables : Type 0 where
   unnamed : drainCall promotionDelay (recordAt 0 1 0) (zeros 8) (wait 0 1) [] 100 []
       ≡ record { result = record { answer = Taken; len = 0; nursery = recordAt 0 0 0 }; out = []; waiting = zeros 5 }
 
+-- a delta with a long cell is given 14, whatever else is true of it
+long-first : (m : Room) (s : State) (d : Delta) → tooLong d ≡ true → answerNumber (answerOf (applyDelta m s d)) ≡ 14
+unfolding evaluation
+long-first m s d e = rw e refl
+
 pub refusal-order : RefusalOrder
 unfolding evaluation
 refusal-order =
     record {
-      fourteen-before-twelve = λ c h. rw h refl;
+      fourteen-before-twelve = λ c h. long-first (record { entries = 1; cells = 0 }) one (record { inserts = holding 1 c ∷ []; removes = [] }) (rw h refl);
       twelve-before-thirteen = refl;
-      fourteen-over-all = λ c h. rw h refl;
+      fourteen-over-all = λ c h. long-first (record { entries = 1; cells = 0 }) one (record { inserts = plain 1 ∷ holding 2 c ∷ []; removes = [] }) (rw h refl);
       twelve-over-all = refl;
       broken-before-fourteen = λ c h. refl;
       broken-before-output = refl;
