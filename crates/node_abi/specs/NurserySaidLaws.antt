@@ -14,7 +14,8 @@ use Rattle.cell_nursery.specs.declared.Found.{Found}
 use Rattle.cell_nursery.specs.declared.Data.{Data}
 use Rattle.cell_nursery.specs.Calls.{Changed, changed, DrainedOut, drainedAs, wrote}
 use Rattle.state_words.specs.Words.{nurseryWords, said}
-use Rattle.node_abi.specs.NurserySaid.{bit, committedSaid, drainedSaid, foundSaid, placedSaid, writtenSaid}
+use Rattle.node_abi.specs.CountersSaid.{bit, writtenSaid}
+use Rattle.node_abi.specs.NurserySaid.{committedSaid, drainedSaid, foundSaid, placedSaid}
 
 pub committed-said : {x : Committed} {es ws cs v : List ℕ} {y : Changed} {r : ℕ} → changed x es ws cs ≡ y
     → (r ≡ answerNumber (x .answer)) × (v ≡ nurseryWords (x .nursery)) → said r [] (v ∷ es ∷ ws ∷ cs ∷ []) ≡ committedSaid y
