@@ -1,11 +1,12 @@
--- `CountersSaid`, `NurserySaid`, `RecordSaid`: what the calls on the counters and their snapshots, on the nursery, and on records and
--- journals give over words. `CountersSaidLaws`, `NurserySaidLaws`, `RecordSaidLaws`: the same from what the calls under them give.
--- `NurserySaidRefusalLaws`, `RecordSaidRefusalLaws`: what a refusal leaves, and what a journal's reading ends with.
+-- What the calls say, over words: `CountersSaid` on the counters and their snapshots, `NurserySaid` on the nursery, `RecordSaid` on records and
+-- journals. `CountersSaidLaws`, `NurserySaidLaws`, `RecordSaidLaws`: the ways of these calls. `CountersKeptLaws`, `NurserySaidKeptLaws`,
+-- `RecordSaidKeptLaws`: a refusal leaves all as it was, what the calls leave may be lent to the held forms, and what a journal's reading ends with.
 pub mod CountersSaid
 pub mod CountersSaidLaws
+pub mod CountersKeptLaws
 pub mod NurserySaid
 pub mod NurserySaidLaws
-pub mod NurserySaidRefusalLaws
+pub mod NurserySaidKeptLaws
 pub mod RecordSaid
 pub mod RecordSaidLaws
-pub mod RecordSaidRefusalLaws
+pub mod RecordSaidKeptLaws

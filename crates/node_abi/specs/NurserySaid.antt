@@ -4,23 +4,18 @@ use Prim.Native.Nat.{ℕ}
 use mathlib.Core.Bool.{Bool, not}
 use mathlib.Core.List.{List, [], _∷_}
 use lib.Dec.{eqb}
-use Rattle.base.specs.Logic.{pick}
 use Rattle.base.specs.Bytes.{unbe}
 use Rattle.base.specs.Answers.{answerNumber}
-use Rattle.base.specs.Output.{Written}
 use Rattle.cell_nursery.specs.declared.Found.{Found}
 use Rattle.cell_nursery.specs.declared.Data.{Data}
 use Rattle.cell_nursery.specs.Drain.{promotionDelay}
 use Rattle.cell_nursery.specs.Calls.{Changed, newCall, deltaCall, DrainedOut, drainCall, lookupCall, dataCall, listingCall}
 use Rattle.state_words.specs.Words.{nurseryWords, Said, said, brokenSaid, overNursery}
+use Rattle.node_abi.specs.CountersSaid.{bit, oneWord, writtenSaid}
 
 -- a flag over the C boundary: any number but 0 says yes
 abbrev pub flag : ℕ → Bool
 flag n = not (eqb n 0)
-
--- a yes or no as a number
-abbrev pub bit : Bool → ℕ
-bit b = pick b 1 0
 
 -- a new state: its record's words, and its tables
 unfoldable pub committedSaid : Changed → Said
@@ -39,12 +34,12 @@ commitSaid w es ws cs wide inserts removes items =
 -- what draining hands out: how many bytes of the output it is; the record's words, the waiting rows and the output after it
 unfoldable pub drainedSaid : DrainedOut → Said
 drainedSaid x =
-    said (answerNumber (x .result .answer)) ((x .result .len ∷ []) ∷ []) (nurseryWords (x .result .nursery) ∷ x .waiting ∷ x .out ∷ [])
+    said (answerNumber (x .result .answer)) (oneWord (x .result .len)) (nurseryWords (x .result .nursery) ∷ x .waiting ∷ x .out ∷ [])
 
 -- draining at a round
 unfoldable pub drainSaid : List ℕ → List ℕ → List ℕ → List ℕ → ℕ → List ℕ → Said
 drainSaid w es ws cs round out =
-    overNursery w (brokenSaid ((0 ∷ []) ∷ []) (w ∷ ws ∷ out ∷ [])) (λ r. drainedSaid (drainCall promotionDelay r es ws cs round out))
+    overNursery w (brokenSaid (oneWord 0) (w ∷ ws ∷ out ∷ [])) (λ r. drainedSaid (drainCall promotionDelay r es ws cs round out))
 
 -- whether a hash is there, and its index
 unfoldable pub foundSaid : Found → Said
@@ -63,11 +58,7 @@ unfoldable pub dataSaid : List ℕ → List ℕ → List ℕ → List ℕ → Sa
 dataSaid w es cs hash =
     overNursery w (brokenSaid ((0 ∷ 0 ∷ 0 ∷ []) ∷ []) []) (λ r. placedSaid (dataCall r es cs (unbe hash)))
 
--- an output: how many bytes of it are the answer
-unfoldable pub writtenSaid : Written → Said
-writtenSaid x = said (answerNumber (x .result .answer)) ((x .result .len ∷ []) ∷ []) (x .out ∷ [])
-
 -- the listing
 unfoldable pub listingSaid : List ℕ → List ℕ → List ℕ → List ℕ → Said
 listingSaid w es cs out =
-    overNursery w (brokenSaid ((0 ∷ []) ∷ []) (out ∷ [])) (λ r. writtenSaid (listingCall r es cs out))
+    overNursery w (brokenSaid (oneWord 0) (out ∷ [])) (λ r. writtenSaid (listingCall r es cs out))

@@ -14,34 +14,35 @@ use Rattle.cell_nursery.specs.declared.Found.{Found}
 use Rattle.cell_nursery.specs.declared.Data.{Data}
 use Rattle.cell_nursery.specs.Calls.{Changed, changed, DrainedOut, drainedAs, wrote}
 use Rattle.state_words.specs.Words.{nurseryWords, said}
-use Rattle.node_abi.specs.NurserySaid.{bit, committedSaid, drainedSaid, foundSaid, placedSaid, writtenSaid}
+use Rattle.node_abi.specs.CountersSaid.{bit, writtenSaid}
+use Rattle.node_abi.specs.NurserySaid.{committedSaid, drainedSaid, foundSaid, placedSaid}
 
-pub committed-said : {x : Committed} {es ws cs v : List ℕ} {y : Changed} {r : ℕ} → changed x es ws cs ≡ y → r ≡ answerNumber (x .answer)
-    → v ≡ nurseryWords (x .nursery) → said r [] (v ∷ es ∷ ws ∷ cs ∷ []) ≡ committedSaid y
+pub committed-said : {x : Committed} {es ws cs v : List ℕ} {y : Changed} {r : ℕ} → changed x es ws cs ≡ y
+    → (r ≡ answerNumber (x .answer)) × (v ≡ nurseryWords (x .nursery)) → said r [] (v ∷ es ∷ ws ∷ cs ∷ []) ≡ committedSaid y
 unfolding committedSaid
-committed-said e p q = rw (p, q) (ap committedSaid e)
+committed-said e p = rw (p .0, p .1) (ap committedSaid e)
 
-pub drained-said : {x : Drained} {out ws v : List ℕ} {y : DrainedOut} {r : ℕ} → drainedAs x out ws ≡ y → r ≡ answerNumber (x .answer)
-    → v ≡ nurseryWords (x .nursery) → said r ((x .len ∷ []) ∷ []) (v ∷ ws ∷ out ∷ []) ≡ drainedSaid y
+pub drained-said : {x : Drained} {out ws v n : List ℕ} {y : DrainedOut} {r : ℕ} → drainedAs x out ws ≡ y
+    → (r ≡ answerNumber (x .answer)) × (n ≡ x .len ∷ []) × (v ≡ nurseryWords (x .nursery)) → said r (n ∷ []) (v ∷ ws ∷ out ∷ []) ≡ drainedSaid y
 unfolding drainedSaid
-drained-said e p q = rw (p, q) (ap drainedSaid e)
+drained-said e p = rw (p .0, p .1, p .2) (ap drainedSaid e)
+
+pub found-said : {x y : Found} {n : List ℕ} {r : ℕ} → x ≡ y → (r ≡ answerNumber (x .answer)) × (n ≡ bit (x .found) ∷ x .idx .0 ∷ [])
+    → said r (n ∷ []) [] ≡ foundSaid y
+unfolding foundSaid
+found-said e p = rw (p .0, p .1) (ap foundSaid e)
+
+pub placed-said : {x y : Data} {n : List ℕ} {r : ℕ} → x ≡ y → (r ≡ answerNumber (x .answer)) × (n ≡ bit (x .found) ∷ x .place ∷ x .len ∷ [])
+    → said r (n ∷ []) [] ≡ placedSaid y
+unfolding placedSaid
+placed-said e p = rw (p .0, p .1) (ap placedSaid e)
+
+pub written-said : {x : Wrote} {out n : List ℕ} {y : Written} {r : ℕ} → wrote x out ≡ y → (r ≡ answerNumber (x .answer)) × (n ≡ x .len ∷ [])
+    → said r (n ∷ []) (out ∷ []) ≡ writtenSaid y
+unfolding writtenSaid
+written-said e p = rw (p .0, p .1) (ap writtenSaid e)
 
 -- a bool that is cast to a number
-bool-bit : (b : Bool) → boolByte b ≡ bit b
+pub bool-bit : (b : Bool) → boolByte b ≡ bit b
 bool-bit true = refl
 bool-bit false = refl
-
-pub found-said : {x y : Found} {r : ℕ} → x ≡ y → r ≡ answerNumber (x .answer)
-    → said r ((boolByte (x .found) ∷ x .idx .0 ∷ []) ∷ []) [] ≡ foundSaid y
-unfolding foundSaid
-found-said {x} e p = rw (p, bool-bit (x .found)) (ap foundSaid e)
-
-pub placed-said : {x y : Data} {r : ℕ} → x ≡ y → r ≡ answerNumber (x .answer)
-    → said r ((boolByte (x .found) ∷ x .place ∷ x .len ∷ []) ∷ []) [] ≡ placedSaid y
-unfolding placedSaid
-placed-said {x} e p = rw (p, bool-bit (x .found)) (ap placedSaid e)
-
-pub written-said : {x : Wrote} {out : List ℕ} {y : Written} {r : ℕ} → wrote x out ≡ y → r ≡ answerNumber (x .answer)
-    → said r ((x .len ∷ []) ∷ []) (out ∷ []) ≡ writtenSaid y
-unfolding writtenSaid
-written-said e p = rw p (ap writtenSaid e)

@@ -1,4 +1,9 @@
 // The nursery's calls. A form named .._held requires of the record and the tables what the form beside it tests.
+use base::Wrote;
+use cell_nursery::Committed;
+use cell_nursery::Data;
+use cell_nursery::Drained;
+use cell_nursery::Found;
 use nursery_commit::apply_commit;
 use nursery_commit::apply_commit_held;
 use state_words::broken;
@@ -8,9 +13,22 @@ ghost use mathlib.Core.Path.{_≡_};
 ghost use mathlib.Core.Bool.{true};
 ghost use mathlib.Core.List.{[], _∷_};
 ghost use lib.ListN.{length};
+ghost use Rattle.base.specs.Answers.{answerNumber};
 ghost use Rattle.cell_nursery.specs.Layout.{holds, holdsEntries, holdsCells};
-ghost use Rattle.state_words.specs.Words.{nurseryOf, said};
+ghost use Rattle.state_words.specs.Words.{nurseryOf, nurseryWords, said};
+ghost use Rattle.node_abi.specs.CountersSaid.{bit};
 ghost use Rattle.node_abi.specs.NurserySaid.{emptySaid, commitSaid, drainSaid, idxSaid, dataSaid, listingSaid};
+
+// The record that a call leaves is written, and its answer's number returned.
+fn put_committed(committed: Committed, nursery: &mut [u64]) -> u8
+    requires { ⌜ length (now nursery) ≡ 3 ⌝ }
+    ensures { λ r. ⌜ (r ≡ answerNumber (committed .answer)) × (now (nursery .exit) ≡ nurseryWords (committed .nursery)) ⌝ }
+{
+    let after = committed.nursery;
+    put_nursery(nursery, after);
+    let a = committed.answer;
+    a.number()
+}
 
 // An empty nursery.
 #[no_mangle]
@@ -25,10 +43,8 @@ pub extern "C" fn selvaigo_nursery_new(
     if nursery.len() != 3 {
         return broken();
     }
-    let made = nursery_table::new(entries, waiting, cells);
-    put_nursery(nursery, made.nursery);
-    let a = made.answer;
-    a.number()
+    let x = nursery_table::new(entries, waiting, cells);
+    put_committed(x, nursery)
 }
 
 // A delta.
@@ -50,10 +66,8 @@ pub extern "C" fn selvaigo_apply_commit(
     }
     let r = nursery_of(nursery);
     let w = wide != 0;
-    let done = apply_commit(r, entries, waiting, cells, w, inserts, removes, items);
-    put_nursery(nursery, done.nursery);
-    let a = done.answer;
-    a.number()
+    let x = apply_commit(r, entries, waiting, cells, w, inserts, removes, items);
+    put_committed(x, nursery)
 }
 
 // The same, where the record and the tables hold a state.
@@ -74,8 +88,18 @@ pub extern "C" fn selvaigo_apply_commit_held(
     let r = nursery_of(nursery);
     let w = wide != 0;
     let x = apply_commit_held(r, entries, waiting, cells, w, inserts, removes, items);
-    put_nursery(nursery, x.nursery);
-    let a = x.answer;
+    put_committed(x, nursery)
+}
+
+// The record after draining and how many bytes were handed out are written, and the answer's number returned.
+fn put_drained(drained: Drained, nursery: &mut [u64], len: &mut [u64; 1]) -> u8
+    requires { ⌜ length (now nursery) ≡ 3 ⌝ }
+    ensures { λ r. ⌜ (r ≡ answerNumber (drained .answer)) × (now (len .exit) ≡ drained .len ∷ []) × (now (nursery .exit) ≡ nurseryWords (drained .nursery)) ⌝ }
+{
+    *len = [drained.len as u64];
+    let after = drained.nursery;
+    put_nursery(nursery, after);
+    let a = drained.answer;
     a.number()
 }
 
@@ -97,11 +121,8 @@ pub extern "C" fn selvaigo_drain_promotable(
         return broken();
     }
     let r = nursery_of(nursery);
-    let drained = nursery_drain::drain_promotable(r, entries, waiting, cells, round, out);
-    *len = [drained.len as u64];
-    put_nursery(nursery, drained.nursery);
-    let a = drained.answer;
-    a.number()
+    let x = nursery_drain::drain_promotable(r, entries, waiting, cells, round, out);
+    put_drained(x, nursery, len)
 }
 
 // The same, where the record and the tables hold a state.
@@ -120,9 +141,15 @@ pub extern "C" fn selvaigo_drain_promotable_held(
 {
     let r = nursery_of(nursery);
     let x = nursery_drain::drain_promotable_held(r, entries, waiting, cells, round, out);
-    *len = [x.len as u64];
-    put_nursery(nursery, x.nursery);
-    let a = x.answer;
+    put_drained(x, nursery, len)
+}
+
+// Whether a hash is there and its index are written, and the answer's number returned.
+fn put_found(entry: Found, found: &mut [u64; 2]) -> u8
+    ensures { λ r. ⌜ (r ≡ answerNumber (entry .answer)) × (now (found .exit) ≡ bit (entry .found) ∷ entry .idx .0 ∷ []) ⌝ }
+{
+    *found = [entry.found as u64, entry.idx.0];
+    let a = entry.answer;
     a.number()
 }
 
@@ -140,10 +167,8 @@ pub extern "C" fn selvaigo_get_idx(
         *found = [0; 2];
         return broken();
     }
-    let entry = nursery_table::get_idx(nursery_of(nursery), entries, *hash);
-    *found = [entry.found as u64, entry.idx.0];
-    let a = entry.answer;
-    a.number()
+    let x = nursery_table::get_idx(nursery_of(nursery), entries, *hash);
+    put_found(x, found)
 }
 
 // The same, where the record and the entries hold a state.
@@ -158,8 +183,15 @@ pub extern "C" fn selvaigo_get_idx_held(
     ensures { λ r. ⌜ said r (now (found .exit) ∷ []) [] ≡ idxSaid (now (nursery .entry)) (now (entries .entry)) (now (hash .entry)) ⌝ }
 {
     let x = nursery_table::get_idx_held(nursery_of(nursery), entries, *hash);
-    *found = [x.found as u64, x.idx.0];
-    let a = x.answer;
+    put_found(x, found)
+}
+
+// Whether a hash is there and where its cell lies are written, and the answer's number returned.
+fn put_data(cell: Data, found: &mut [u64; 3]) -> u8
+    ensures { λ r. ⌜ (r ≡ answerNumber (cell .answer)) × (now (found .exit) ≡ bit (cell .found) ∷ cell .place ∷ cell .len ∷ []) ⌝ }
+{
+    *found = [cell.found as u64, cell.place as u64, cell.len as u64];
+    let a = cell.answer;
     a.number()
 }
 
@@ -178,10 +210,8 @@ pub extern "C" fn selvaigo_get_data(
         *found = [0; 3];
         return broken();
     }
-    let cell = nursery_table::get_data(nursery_of(nursery), entries, cells, *hash);
-    *found = [cell.found as u64, cell.place as u64, cell.len as u64];
-    let a = cell.answer;
-    a.number()
+    let x = nursery_table::get_data(nursery_of(nursery), entries, cells, *hash);
+    put_data(x, found)
 }
 
 // The same, where the record, the entries and the cells hold a state.
@@ -197,8 +227,15 @@ pub extern "C" fn selvaigo_get_data_held(
     ensures { λ r. ⌜ said r (now (found .exit) ∷ []) [] ≡ dataSaid (now (nursery .entry)) (now (entries .entry)) (now (cells .entry)) (now (hash .entry)) ⌝ }
 {
     let x = nursery_table::get_data_held(nursery_of(nursery), entries, cells, *hash);
-    *found = [x.found as u64, x.place as u64, x.len as u64];
-    let a = x.answer;
+    put_data(x, found)
+}
+
+// The listing's length is written, and the answer's number returned.
+fn put_wrote(wrote: Wrote, len: &mut [u64; 1]) -> u8
+    ensures { λ r. ⌜ (r ≡ answerNumber (wrote .answer)) × (now (len .exit) ≡ wrote .len ∷ []) ⌝ }
+{
+    *len = [wrote.len as u64];
+    let a = wrote.answer;
     a.number()
 }
 
@@ -217,10 +254,8 @@ pub extern "C" fn selvaigo_snapshot_entries(
         *len = [0];
         return broken();
     }
-    let wrote = nursery_listing::snapshot_entries(nursery_of(nursery), entries, cells, out);
-    *len = [wrote.len as u64];
-    let a = wrote.answer;
-    a.number()
+    let x = nursery_listing::snapshot_entries(nursery_of(nursery), entries, cells, out);
+    put_wrote(x, len)
 }
 
 // The same, where the record, the entries and the cells hold a state.
@@ -236,7 +271,5 @@ pub extern "C" fn selvaigo_snapshot_entries_held(
     ensures { λ r. ⌜ said r (now (len .exit) ∷ []) (now (out .exit) ∷ []) ≡ listingSaid (now (nursery .entry)) (now (entries .entry)) (now (cells .entry)) (now (out .entry)) ⌝ }
 {
     let x = nursery_listing::snapshot_entries_held(nursery_of(nursery), entries, cells, out);
-    *len = [x.len as u64];
-    let a = x.answer;
-    a.number()
+    put_wrote(x, len)
 }

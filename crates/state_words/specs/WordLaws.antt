@@ -2,13 +2,15 @@
 -- Assumes nothing.
 use Prim.Native.Nat.{ℕ, zero, suc, _+_}
 use mathlib.Core.Path.{_≡_, refl, sym, ap, _∙_}
+use mathlib.Core.Bool.{Bool, true, false}
 use mathlib.Core.List.{List, [], _∷_, append-nil}
 use native.Mathlib.Omega.{arith}
 use native.Mathlib.Nat.{add-zero}
 use lib.ListN.{length, drop, getD}
 use lib.Seq.{paste, drop-cons, drop-length}
-use borrow.Author.Tests.{eq-eqb, ne-eqb}
-use Rattle.base.specs.Logic.{overlay}
+use lib.Dec.{eqb}
+use borrow.Author.Tests.{eqb-true, eq-eqb, ne-eqb}
+use Rattle.base.specs.Logic.{pick, overlay}
 use Rattle.slices.specs.Laws.{paste-start}
 use Rattle.counters.specs.declared.Counters.{Counters}
 use Rattle.cell_nursery.specs.declared.Nursery.{Nursery}
@@ -89,3 +91,20 @@ module _ (w : List ℕ) (d : Said) where
   pub not-nursery : (f : Nursery → Said) → (length w ≡ 3 → ⊥) → d ≡ overNursery w d f
   unfolding overNursery
   not-nursery f h = rw (ne-eqb (length w) 3 h)
+
+  -- what both ways have, the call has
+  pub each-counters-way : (P : Said → Type 0) (f : Counters → Said) → (length w ≡ 13 → P (f (countersOf w))) → P d → P (overCounters w d f)
+  unfolding overCounters
+  each-counters-way P f g h = go (eqb (length w) 13) refl
+    where
+      go : (b : Bool) → eqb (length w) 13 ≡ b → P (pick b (f (countersOf w)) d)
+      go true e = g (eqb-true (length w) 13 e)
+      go false e = h
+
+  pub each-nursery-way : (P : Said → Type 0) (f : Nursery → Said) → (length w ≡ 3 → P (f (nurseryOf w))) → P d → P (overNursery w d f)
+  unfolding overNursery
+  each-nursery-way P f g h = go (eqb (length w) 3) refl
+    where
+      go : (b : Bool) → eqb (length w) 3 ≡ b → P (pick b (f (nurseryOf w)) d)
+      go true e = g (eqb-true (length w) 3 e)
+      go false e = h

@@ -24,11 +24,8 @@ nursery-of-requires c κs = search needs
 apply-commit-requires : tie.Need-apply-commit-requires
 apply-commit-requires c κs = search needs
 
-put-nursery-requires : tie.Need-put-nursery-requires
-put-nursery-requires c κs = search needs
-
-number-requires : tie.Need-number-requires
-number-requires c κs = search needs
+put-committed-requires : tie.Need-put-committed-requires
+put-committed-requires c κs = search needs
 
 same-length : tie.Need-same-length
 same-length c = search needs
@@ -45,8 +42,8 @@ same-length-4 c = search needs
 returns-2 : tie.Need-returns-2
 unfolding commitSaid overNursery
 returns-2 c =
-    let w = c .before .before .before .before .before .before .before .before .before .before .before .before .before .before .before .before .before .before .before .before .before .before .before .args .nursery .now in
-    rw (eq-eqb (length w) 3 (omega arith)) (committed-said (rw (c .before .before .before .before .before .before .before .before .before .before .before .before .before .before .before .nursery-of .ensures) at (c .before .before .before .before .before .before .before .before .before .before .before .apply-commit .ensures)) (c .number .ensures) (c .before .before .before .put-nursery .ensures))
+    let w = c .before .before .before .before .before .before .before .before .before .before .before .before .before .before .before .before .before .before .before .before .before .before .args .nursery .now in
+    rw (eq-eqb (length w) 3 (omega arith)) (committed-said (rw (c .before .before .before .before .before .before .before .before .before .before .before .before .before .before .nursery-of .ensures) at (c .before .before .before .before .before .before .before .before .before .before .apply-commit .ensures)) (c .before .before .put-committed .ensures))
 
 pub selvaigo-apply-commit-spec : {M : Type 1} → statement M
 selvaigo-apply-commit-spec =
@@ -56,8 +53,7 @@ selvaigo-apply-commit-spec =
     returns
     nursery-of-requires
     apply-commit-requires
-    put-nursery-requires
-    number-requires
+    put-committed-requires
     same-length
     same-length-2
     same-length-3

@@ -12,13 +12,12 @@ nursery-of-requires : tie.Need-nursery-of-requires
 nursery-of-requires c κs = search needs
 
 apply-commit-held-requires : tie.Need-apply-commit-held-requires
-apply-commit-held-requires c κs = rw (c .before .before .before .nursery-of .ensures) (c .before .before .before .before .before .before .before .before .before .before .pre .1)
+apply-commit-held-requires c κs =
+    let p = c .before .before .before .before .before .before .before .before .before .before .pre in
+    rw (c .before .before .before .nursery-of .ensures) (p .1)
 
-put-nursery-requires : tie.Need-put-nursery-requires
-put-nursery-requires c κs = search needs
-
-number-requires : tie.Need-number-requires
-number-requires c κs = search needs
+put-committed-requires : tie.Need-put-committed-requires
+put-committed-requires c κs = search needs
 
 same-length : tie.Need-same-length
 same-length c = search needs
@@ -35,8 +34,8 @@ same-length-4 c = search needs
 returns : tie.Need-returns
 unfolding commitSaid overNursery
 returns c =
-    let at = c .before .before .before .before .before .before .before .before .before .before .before .before .before .before .before .before .before .before .before .before .before .before in
-    rw (eq-eqb (length (at .args .nursery .now)) 3 (at .pre .0)) (committed-said (rw (c .before .before .before .before .before .before .before .before .before .before .before .before .before .before .before .nursery-of .ensures) at (c .before .before .before .before .before .before .before .before .before .before .before .apply-commit-held .ensures)) (c .number .ensures) (c .before .before .before .put-nursery .ensures))
+    let at = c .before .before .before .before .before .before .before .before .before .before .before .before .before .before .before .before .before .before .before .before .before in
+    rw (eq-eqb (length (at .args .nursery .now)) 3 (at .pre .0)) (committed-said (rw (c .before .before .before .before .before .before .before .before .before .before .before .before .before .before .nursery-of .ensures) at (c .before .before .before .before .before .before .before .before .before .before .apply-commit-held .ensures)) (c .before .before .put-committed .ensures))
 
 pub selvaigo-apply-commit-held-spec : {M : Type 1} → statement M
 selvaigo-apply-commit-held-spec =
@@ -44,8 +43,7 @@ selvaigo-apply-commit-held-spec =
     (tie.spec
     nursery-of-requires
     apply-commit-held-requires
-    put-nursery-requires
-    number-requires
+    put-committed-requires
     same-length
     same-length-2
     same-length-3

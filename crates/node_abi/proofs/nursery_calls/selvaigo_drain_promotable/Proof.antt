@@ -24,11 +24,8 @@ nursery-of-requires c κs = search needs
 drain-promotable-requires : tie.Need-drain-promotable-requires
 drain-promotable-requires c κs = search needs
 
-put-nursery-requires : tie.Need-put-nursery-requires
-put-nursery-requires c κs = search needs
-
-number-requires : tie.Need-number-requires
-number-requires c κs = search needs
+put-drained-requires : tie.Need-put-drained-requires
+put-drained-requires c κs = search needs
 
 same-length : tie.Need-same-length
 same-length c = search needs
@@ -42,8 +39,8 @@ same-length-3 c = search needs
 returns-2 : tie.Need-returns-2
 unfolding drainSaid overNursery
 returns-2 c =
-    let w = c .before .before .before .before .before .before .before .before .before .before .before .before .before .before .before .before .before .before .before .before .before .args .nursery .now in
-    rw (eq-eqb (length w) 3 (omega arith)) (drained-said (rw (c .before .before .before .before .before .before .before .before .before .before .before .before .before .nursery-of .ensures) at (c .before .before .before .before .before .before .before .before .before .before .drain-promotable .ensures)) (c .number .ensures) (c .before .before .before .put-nursery .ensures))
+    let w = c .before .before .before .before .before .before .before .before .before .before .before .before .before .before .before .before .before .before .before .before .args .nursery .now in
+    rw (eq-eqb (length w) 3 (omega arith)) (drained-said (rw (c .before .before .before .before .before .before .before .before .before .before .before .before .nursery-of .ensures) at (c .before .before .before .before .before .before .before .before .before .drain-promotable .ensures)) (c .before .before .put-drained .ensures))
 
 pub selvaigo-drain-promotable-spec : {M : Type 1} → statement M
 selvaigo-drain-promotable-spec =
@@ -53,8 +50,7 @@ selvaigo-drain-promotable-spec =
     returns
     nursery-of-requires
     drain-promotable-requires
-    put-nursery-requires
-    number-requires
+    put-drained-requires
     same-length
     same-length-2
     same-length-3

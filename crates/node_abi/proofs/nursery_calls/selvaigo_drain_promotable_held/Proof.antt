@@ -14,13 +14,12 @@ nursery-of-requires : tie.Need-nursery-of-requires
 nursery-of-requires c κs = search needs
 
 drain-promotable-held-requires : tie.Need-drain-promotable-held-requires
-drain-promotable-held-requires c κs = rw (c .before .before .nursery-of .ensures) (c .before .before .before .before .before .before .before .before .before .pre .1)
+drain-promotable-held-requires c κs =
+    let p = c .before .before .before .before .before .before .before .before .before .pre in
+    rw (c .before .before .nursery-of .ensures) (p .1)
 
-put-nursery-requires : tie.Need-put-nursery-requires
-put-nursery-requires c κs = search needs
-
-number-requires : tie.Need-number-requires
-number-requires c κs = search needs
+put-drained-requires : tie.Need-put-drained-requires
+put-drained-requires c κs = search needs
 
 same-length : tie.Need-same-length
 same-length c = search needs
@@ -34,8 +33,8 @@ same-length-3 c = search needs
 returns : tie.Need-returns
 unfolding drainSaid overNursery
 returns c =
-    let at = c .before .before .before .before .before .before .before .before .before .before .before .before .before .before .before .before .before .before .before .before in
-    rw (eq-eqb (length (at .args .nursery .now)) 3 (at .pre .0)) (drained-said (rw (c .before .before .before .before .before .before .before .before .before .before .before .before .before .nursery-of .ensures) at (c .before .before .before .before .before .before .before .before .before .before .drain-promotable-held .ensures)) (c .number .ensures) (c .before .before .before .put-nursery .ensures))
+    let at = c .before .before .before .before .before .before .before .before .before .before .before .before .before .before .before .before .before .before .before in
+    rw (eq-eqb (length (at .args .nursery .now)) 3 (at .pre .0)) (drained-said (rw (c .before .before .before .before .before .before .before .before .before .before .before .before .nursery-of .ensures) at (c .before .before .before .before .before .before .before .before .before .drain-promotable-held .ensures)) (c .before .before .put-drained .ensures))
 
 pub selvaigo-drain-promotable-held-spec : {M : Type 1} → statement M
 selvaigo-drain-promotable-held-spec =
@@ -43,8 +42,7 @@ selvaigo-drain-promotable-held-spec =
     (tie.spec
     nursery-of-requires
     drain-promotable-held-requires
-    put-nursery-requires
-    number-requires
+    put-drained-requires
     same-length
     same-length-2
     same-length-3

@@ -24,17 +24,14 @@ nursery-of-requires c κs = search needs
 get-data-requires : tie.Need-get-data-requires
 get-data-requires c κs = search needs
 
-cast-t12 : tie.Need-cast-t12
-cast-t12 c = search needs
-
-number-requires : tie.Need-number-requires
-number-requires c κs = search needs
+put-data-requires : tie.Need-put-data-requires
+put-data-requires c κs = search needs
 
 returns-2 : tie.Need-returns-2
 unfolding dataSaid overNursery
 returns-2 c =
-    let w = c .before .before .before .before .before .before .before .before .before .before .args .nursery .now in
-    rw (eq-eqb (length w) 3 (omega arith)) (placed-said (rw (c .before .before .before .before .before .nursery-of .ensures) at (c .before .before .before .get-data .ensures)) (c .number .ensures))
+    let w = c .before .before .before .before .before .before .before .before .before .args .nursery .now in
+    rw (eq-eqb (length w) 3 (omega arith)) (placed-said (rw (c .before .before .before .before .nursery-of .ensures) at (c .before .before .get-data .ensures)) (c .put-data .ensures))
 
 pub selvaigo-get-data-spec : {M : Type 1} → statement M
 selvaigo-get-data-spec =
@@ -44,6 +41,5 @@ selvaigo-get-data-spec =
     returns
     nursery-of-requires
     get-data-requires
-    cast-t12
-    number-requires
+    put-data-requires
     returns-2)

@@ -12,22 +12,19 @@ nursery-of-requires : tie.Need-nursery-of-requires
 nursery-of-requires c κs = search needs
 
 get-data-held-requires : tie.Need-get-data-held-requires
-get-data-held-requires c κs = let p = c .before .before .before .before .before .pre in
+get-data-held-requires c κs =
+    let p = c .before .before .before .before .before .pre in
     rw (c .before .nursery-of .ensures) (p .1, p .2)
 
-cast-t10 : tie.Need-cast-t10
-cast-t10 c = search needs
-
-number-requires : tie.Need-number-requires
-number-requires c κs = search needs
+put-data-requires : tie.Need-put-data-requires
+put-data-requires c κs = search needs
 
 returns : tie.Need-returns
 unfolding dataSaid overNursery
 returns c =
-    let at = c .before .before .before .before .before .before .before .before .before in
-    rw (eq-eqb (length (at .args .nursery .now)) 3 (at .pre .0)) (placed-said (rw (c .before .before .before .before .before .nursery-of .ensures) at (c .before .before .before .get-data-held .ensures)) (c .number .ensures))
+    let at = c .before .before .before .before .before .before .before .before in
+    rw (eq-eqb (length (at .args .nursery .now)) 3 (at .pre .0)) (placed-said (rw (c .before .before .before .before .nursery-of .ensures) at (c .before .before .get-data-held .ensures)) (c .put-data .ensures))
 
 pub selvaigo-get-data-held-spec : {M : Type 1} → statement M
 selvaigo-get-data-held-spec =
-    tie.close
-    (tie.spec nursery-of-requires get-data-held-requires cast-t10 number-requires returns)
+    tie.close (tie.spec nursery-of-requires get-data-held-requires put-data-requires returns)

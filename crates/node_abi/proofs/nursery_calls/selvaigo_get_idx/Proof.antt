@@ -24,17 +24,14 @@ nursery-of-requires c κs = search needs
 get-idx-requires : tie.Need-get-idx-requires
 get-idx-requires c κs = search needs
 
-cast-t11 : tie.Need-cast-t11
-cast-t11 c = search needs
-
-number-requires : tie.Need-number-requires
-number-requires c κs = search needs
+put-found-requires : tie.Need-put-found-requires
+put-found-requires c κs = search needs
 
 returns-2 : tie.Need-returns-2
 unfolding idxSaid overNursery
 returns-2 c =
-    let w = c .before .before .before .before .before .before .before .before .before .args .nursery .now in
-    rw (eq-eqb (length w) 3 (omega arith)) (found-said (rw (c .before .before .before .before .before .nursery-of .ensures) at (c .before .before .before .get-idx .ensures)) (c .number .ensures))
+    let w = c .before .before .before .before .before .before .before .before .args .nursery .now in
+    rw (eq-eqb (length w) 3 (omega arith)) (found-said (rw (c .before .before .before .before .nursery-of .ensures) at (c .before .before .get-idx .ensures)) (c .put-found .ensures))
 
 pub selvaigo-get-idx-spec : {M : Type 1} → statement M
 selvaigo-get-idx-spec =
@@ -44,6 +41,5 @@ selvaigo-get-idx-spec =
     returns
     nursery-of-requires
     get-idx-requires
-    cast-t11
-    number-requires
+    put-found-requires
     returns-2)

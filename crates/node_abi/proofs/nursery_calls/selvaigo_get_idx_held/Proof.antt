@@ -12,20 +12,19 @@ nursery-of-requires : tie.Need-nursery-of-requires
 nursery-of-requires c κs = search needs
 
 get-idx-held-requires : tie.Need-get-idx-held-requires
-get-idx-held-requires c κs = rw (c .before .nursery-of .ensures) (c .before .before .before .before .pre .1)
+get-idx-held-requires c κs =
+    let p = c .before .before .before .before .pre in
+    rw (c .before .nursery-of .ensures) (p .1)
 
-cast-t9 : tie.Need-cast-t9
-cast-t9 c = search needs
-
-number-requires : tie.Need-number-requires
-number-requires c κs = search needs
+put-found-requires : tie.Need-put-found-requires
+put-found-requires c κs = search needs
 
 returns : tie.Need-returns
 unfolding idxSaid overNursery
 returns c =
-    let at = c .before .before .before .before .before .before .before .before in
-    rw (eq-eqb (length (at .args .nursery .now)) 3 (at .pre .0)) (found-said (rw (c .before .before .before .before .before .nursery-of .ensures) at (c .before .before .before .get-idx-held .ensures)) (c .number .ensures))
+    let at = c .before .before .before .before .before .before .before in
+    rw (eq-eqb (length (at .args .nursery .now)) 3 (at .pre .0)) (found-said (rw (c .before .before .before .before .nursery-of .ensures) at (c .before .before .get-idx-held .ensures)) (c .put-found .ensures))
 
 pub selvaigo-get-idx-held-spec : {M : Type 1} → statement M
 selvaigo-get-idx-held-spec =
-    tie.close (tie.spec nursery-of-requires get-idx-held-requires cast-t9 number-requires returns)
+    tie.close (tie.spec nursery-of-requires get-idx-held-requires put-found-requires returns)

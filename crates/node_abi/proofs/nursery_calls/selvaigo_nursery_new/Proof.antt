@@ -21,11 +21,8 @@ returns c =
 new-requires : tie.Need-new-requires
 new-requires c κs = search needs
 
-put-nursery-requires : tie.Need-put-nursery-requires
-put-nursery-requires c κs = search needs
-
-number-requires : tie.Need-number-requires
-number-requires c κs = search needs
+put-committed-requires : tie.Need-put-committed-requires
+put-committed-requires c κs = search needs
 
 same-length : tie.Need-same-length
 same-length c = search needs
@@ -42,8 +39,8 @@ same-length-4 c = search needs
 returns-2 : tie.Need-returns-2
 unfolding emptySaid overNursery
 returns-2 c =
-    let w = c .before .before .before .before .before .before .before .before .before .before .before .before .before .before .before .before .before .before .before .before .args .nursery .now in
-    rw (eq-eqb (length w) 3 (omega arith)) (committed-said (c .before .before .before .before .before .before .before .before .before .before .before .new .ensures) (c .number .ensures) (c .before .before .before .put-nursery .ensures))
+    let w = c .before .before .before .before .before .before .before .before .before .before .before .before .before .before .before .before .before .before .before .args .nursery .now in
+    rw (eq-eqb (length w) 3 (omega arith)) (committed-said (c .before .before .before .before .before .before .before .before .before .before .new .ensures) (c .before .before .put-committed .ensures))
 
 pub selvaigo-nursery-new-spec : {M : Type 1} → statement M
 selvaigo-nursery-new-spec =
@@ -52,8 +49,7 @@ selvaigo-nursery-new-spec =
     broken-requires
     returns
     new-requires
-    put-nursery-requires
-    number-requires
+    put-committed-requires
     same-length
     same-length-2
     same-length-3

@@ -24,8 +24,8 @@ nursery-of-requires c κs = search needs
 snapshot-entries-requires : tie.Need-snapshot-entries-requires
 snapshot-entries-requires c κs = search needs
 
-number-requires : tie.Need-number-requires
-number-requires c κs = search needs
+put-wrote-requires : tie.Need-put-wrote-requires
+put-wrote-requires c κs = search needs
 
 same-length : tie.Need-same-length
 same-length c = search needs
@@ -34,7 +34,7 @@ returns-2 : tie.Need-returns-2
 unfolding listingSaid overNursery
 returns-2 c =
     let w = c .before .before .before .before .before .before .before .before .before .before .before .before .args .nursery .now in
-    rw (eq-eqb (length w) 3 (omega arith)) (written-said (rw (c .before .before .before .before .before .before .nursery-of .ensures) at (c .before .before .before .before .snapshot-entries .ensures)) (c .number .ensures))
+    rw (eq-eqb (length w) 3 (omega arith)) (written-said (rw (c .before .before .before .before .before .before .nursery-of .ensures) at (c .before .before .before .before .snapshot-entries .ensures)) (c .put-wrote .ensures))
 
 pub selvaigo-snapshot-entries-spec : {M : Type 1} → statement M
 selvaigo-snapshot-entries-spec =
@@ -44,6 +44,6 @@ selvaigo-snapshot-entries-spec =
     returns
     nursery-of-requires
     snapshot-entries-requires
-    number-requires
+    put-wrote-requires
     same-length
     returns-2)

@@ -14,11 +14,12 @@ nursery-of-requires : tie.Need-nursery-of-requires
 nursery-of-requires c κs = search needs
 
 snapshot-entries-held-requires : tie.Need-snapshot-entries-held-requires
-snapshot-entries-held-requires c κs = let p = c .before .before .before .before .before .before .pre in
+snapshot-entries-held-requires c κs =
+    let p = c .before .before .before .before .before .before .pre in
     rw (c .before .nursery-of .ensures) (p .1, p .2)
 
-number-requires : tie.Need-number-requires
-number-requires c κs = search needs
+put-wrote-requires : tie.Need-put-wrote-requires
+put-wrote-requires c κs = search needs
 
 same-length : tie.Need-same-length
 same-length c = search needs
@@ -27,7 +28,7 @@ returns : tie.Need-returns
 unfolding listingSaid overNursery
 returns c =
     let at = c .before .before .before .before .before .before .before .before .before .before .before in
-    rw (eq-eqb (length (at .args .nursery .now)) 3 (at .pre .0)) (written-said (rw (c .before .before .before .before .before .before .nursery-of .ensures) at (c .before .before .before .before .snapshot-entries-held .ensures)) (c .number .ensures))
+    rw (eq-eqb (length (at .args .nursery .now)) 3 (at .pre .0)) (written-said (rw (c .before .before .before .before .before .before .nursery-of .ensures) at (c .before .before .before .before .snapshot-entries-held .ensures)) (c .put-wrote .ensures))
 
 pub selvaigo-snapshot-entries-held-spec : {M : Type 1} → statement M
 selvaigo-snapshot-entries-held-spec =
@@ -35,6 +36,6 @@ selvaigo-snapshot-entries-held-spec =
     (tie.spec
     nursery-of-requires
     snapshot-entries-held-requires
-    number-requires
+    put-wrote-requires
     same-length
     returns)

@@ -28,26 +28,26 @@ use Rattle.format.specs.Calls.{noStats, encodedOut, encodeCall, decodedOf, deco
 use Rattle.journal.specs.Journal.{readFrom, readJournal, readCall}
 use Rattle.state_words.specs.Words.{brokenSaid, overNursery}
 use Rattle.node_abi.specs.NurserySaid.{flag}
-use Rattle.node_abi.specs.NurserySaidRefusalLaws.{Kept}
+use Rattle.node_abi.specs.CountersKeptLaws.{Unchanged}
 use Rattle.node_abi.specs.RecordSaid.{encodedSaid, encodeSaid, decodedSaid, decodeSaid, readInSaid, journalSaid}
 
 -- ---- records
-pub encode-kept : (id wide inserts removes : ℕ) (items out : List ℕ) → Kept (zeros 6 ∷ []) (out ∷ []) (encodeSaid id wide inserts removes items out)
+pub encode-unchanged : (id wide inserts removes : ℕ) (items out : List ℕ) → Unchanged (zeros 6 ∷ []) (out ∷ []) (encodeSaid id wide inserts removes items out)
 unfolding encodeSaid encodeCall encodedSaid encodedOut noStats
-encode-kept id wide inserts removes items out =
+encode-unchanged id wide inserts removes items out =
     go (orRefuse Broken (deltaOf (lengthWidth (flag wide)) inserts removes items) >>= (λ d.
     encode blake3.hash id d >>= (λ e. refuseIf (ltb (length out) (length (e .bytes))) OutputFull >> taken e)))
   where
-    go : (o : Outcome Encoding) → Kept (zeros 6 ∷ []) (out ∷ []) (encodedSaid (encodedOut out o))
-    go (refused q) n = refl
+    go : (o : Outcome Encoding) → Unchanged (zeros 6 ∷ []) (out ∷ []) (encodedSaid (encodedOut out o))
+    go (refused q) n = (refl, refl)
     go (taken e) n = absurd (n refl)
 
-pub decode-kept : (bs : List ℕ) → Kept (zeros 8 ∷ zeros 32 ∷ []) [] (decodeSaid bs)
+pub decode-unchanged : (bs : List ℕ) → Unchanged (zeros 8 ∷ zeros 32 ∷ []) [] (decodeSaid bs)
 unfolding decodeSaid decodeCall decodedSaid decodedOf noStats
-decode-kept bs = go (decode blake3.hash bs)
+decode-unchanged bs = go (decode blake3.hash bs)
   where
-    go : (o : Outcome Decoding) → Kept (zeros 8 ∷ zeros 32 ∷ []) [] (decodedSaid (decodedOf o))
-    go (refused q) n = refl
+    go : (o : Outcome Decoding) → Unchanged (zeros 8 ∷ zeros 32 ∷ []) [] (decodedSaid (decodedOf o))
+    go (refused q) n = (refl, refl)
     go (taken d) n = absurd (n refl)
 
 -- ---- what a journal's reading can end with: its end, a record that is refused, a delta that is
@@ -115,6 +115,6 @@ module _ (bs w es ws cs : List ℕ) where
     λ n. rw (ne-eqb (length w) 3 n),
   )
 
-  pub journal-kept : (length w ≡ 3 → ⊥) → journalSaid bs w es ws cs ≡ brokenSaid ((0 ∷ 0 ∷ []) ∷ []) (w ∷ es ∷ ws ∷ cs ∷ [])
+  pub journal-unchanged : (length w ≡ 3 → ⊥) → journalSaid bs w es ws cs ≡ brokenSaid ((0 ∷ 0 ∷ []) ∷ []) (w ∷ es ∷ ws ∷ cs ∷ [])
   unfolding journalSaid overNursery
-  journal-kept n = rw (ne-eqb (length w) 3 n)
+  journal-unchanged n = rw (ne-eqb (length w) 3 n)
