@@ -17,6 +17,8 @@ fn main() {
         );
         return;
     }
+    // The tests link the example in C with the same library.
+    println!("cargo::rustc-env=SELVAIGO_FOLDER={}", folder.display());
     println!("cargo::rustc-link-search=native={}", folder.display());
     println!("cargo::rustc-link-lib=static=node_abi");
 }

@@ -74,9 +74,12 @@ impl EncodedRecord {
 
 /// The record of a delta. A cell or a list that is too long is refused.
 pub fn encode_record(id: u64, delta: &NurseryDelta) -> Result<EncodedRecord, Refusal> {
-    let items = delta.to_items()?;
+    encoded(id, &delta.to_items()?)
+}
+
+pub(crate) fn encoded(id: u64, items: &DeltaItems<'_>) -> Result<EncodedRecord, Refusal> {
     let mut bytes = vec![0; PREFIX_LEN + COUNTS_LEN + items.bytes.len()];
-    let (len, stats) = encode_items(id, &items, &mut bytes)?;
+    let (len, stats) = encode_items(id, items, &mut bytes)?;
     bytes.truncate(len);
     Ok(EncodedRecord { id, bytes, stats })
 }

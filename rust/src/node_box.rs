@@ -1,5 +1,6 @@
 //! A box: counters and a nursery.
-use crate::{CellNursery, Counters, JournalEnd, NextIdx, NurseryDelta, Refusal, encode_record, read_journal};
+use crate::format::encoded;
+use crate::{CellNursery, Counters, JournalEnd, NextIdx, NurseryDelta, Refusal, read_journal};
 
 /// How much a box's tables have room for. It takes 16 bytes a count and 104 an entry, beside the cells.
 #[derive(Debug, Clone, Copy, PartialEq, Eq)]
@@ -53,8 +54,9 @@ impl NodeBox {
 
     /// A delta, and its record at the end of the box's journal: where it is taken and has an insert or a remove. A refusal changes neither.
     pub fn commit(&mut self, id: u64, delta: &NurseryDelta, journal: &mut Vec<u8>) -> Result<(), Refusal> {
-        let record = encode_record(id, delta)?;
-        self.nursery.apply_commit(delta)?;
+        let items = delta.to_items()?;
+        let record = encoded(id, &items)?;
+        self.nursery.apply_items(&items)?;
         if !delta.is_empty() {
             journal.extend_from_slice(record.bytes());
         }
