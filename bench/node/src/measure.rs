@@ -57,16 +57,13 @@ pub fn with_commas(n: u64) -> String {
     groups.join(",")
 }
 
-// Three digits that count.
+// Three digits that count, two of a small number.
 fn short(x: f64) -> String {
-    match x {
-        x if x >= 1000.0 => with_commas(x as u64),
-        x if x >= 100.0 => format!("{x:.0}"),
-        x if x >= 10.0 => format!("{x:.1}"),
-        x if x >= 1.0 => format!("{x:.2}"),
-        x if x >= 0.1 => format!("{x:.3}"),
-        x => format!("{x:.4}"),
+    if x >= 1000.0 {
+        return with_commas(x as u64);
     }
+    let after_the_first = if x < 0.1 { 1 } else { 2 };
+    format!("{x:.0$}", (after_the_first - x.log10().floor() as i32) as usize)
 }
 
 impl Run {
@@ -86,17 +83,22 @@ impl Run {
         println!("{} lines; in each of them both sides gave the same answers.", self.lines.get());
     }
 
-    // The sides take turns of a millisecond or one call, for about a second in all; a first turn that takes longer than that is a side's only one.
+    // The sides take turns of a millisecond or one call, for about a second in all, with what prepares them; a first turn that takes longer than
+    // that is a side's only one.
     fn medians(&self, sides: &mut [Side<'_>]) -> Vec<f64> {
         let (whole, most) = if self.quick { (0.15, 15) } else { (1.0, 101) };
-        let first: Vec<f64> = sides.iter_mut().map(|(_, f)| f(1)).collect();
-        let times: Vec<usize> = first.iter().map(|t| (1e-3 / t) as usize + 1).collect();
-        let again: Vec<bool> = first.iter().map(|t| *t < whole).collect();
-        let of_all: f64 = (0..sides.len()).filter(|k| again[*k]).map(|k| first[k] * times[k] as f64).sum();
-        let turns = ((whole / of_all) as usize).clamp(2, most);
-        let mut took: Vec<Vec<f64>> = first.iter().map(|t| vec![*t]).collect();
-        for _ in 0..turns {
-            for k in (0..sides.len()).filter(|k| again[*k]) {
+        let mut took = Vec::new();
+        let mut costs = Vec::new();
+        for (_, f) in &mut *sides {
+            let start = clock();
+            took.push(vec![f(1)]);
+            costs.push(clock() - start);
+        }
+        let times: Vec<usize> = costs.iter().map(|cost| (1e-3 / cost) as usize + 1).collect();
+        let again: Vec<usize> = (0..sides.len()).filter(|k| costs[*k] < whole).collect();
+        let of_all: f64 = again.iter().map(|k| costs[*k] * times[*k] as f64).sum();
+        for _ in 0..((whole / of_all) as usize).clamp(2, most) {
+            for &k in &again {
                 took[k].push(sides[k].1(times[k]) / times[k] as f64);
             }
         }
