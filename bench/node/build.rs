@@ -1,5 +1,4 @@
-// Lays the original files into the module tree that their paths ask for, and links the port, target/staticlib/libnode_bench_abi.a, which
-// `rt staticlib node_bench_abi` writes.
+// Lays the original files into the module tree that their paths ask for.
 //
 // TYCHO_SRC is the folder that holds core/src/storage/shard_state.
 use std::path::Path;
@@ -14,19 +13,11 @@ fn main() {
         println!("cargo:rerun-if-changed={}", path.display());
         format!("{:?}", path.display().to_string())
     };
-    let modules = [
-        ("pub mod counters", "counters.rs"),
-        ("pub mod cell_nursery", "cell_nursery.rs"),
-        ("mod util", "util.rs"),
-    ];
+    let modules = [("pub mod counters", "counters.rs"), ("pub mod cell_nursery", "cell_nursery.rs"), ("mod util", "util.rs")];
     let mut text: String = modules.iter().map(|(module, name)| format!("#[path = {}]\n{module};\n", file(name))).collect();
-    text += &format!("pub mod nursery_persistence {{\n#[path = {}]\npub mod format;\n}}\n", file("nursery_persistence/format.rs"));
+    text +=
+        &format!("pub mod nursery_persistence {{\n#[path = {}]\npub mod format;\n}}\n", file("nursery_persistence/format.rs"));
     let here = env::var("CARGO_MANIFEST_DIR").unwrap();
     text += &format!("#[path = {:?}]\npub mod compare;\n", format!("{here}/src/compare.rs"));
     fs::write(Path::new(&env::var("OUT_DIR").unwrap()).join("shard_state.rs"), text).unwrap();
-
-    let library = format!("{here}/../../target/staticlib");
-    println!("cargo:rustc-link-search=native={library}");
-    println!("cargo:rustc-link-lib=static=node_bench_abi");
-    println!("cargo:rerun-if-changed={library}/libnode_bench_abi.a");
 }

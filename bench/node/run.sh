@@ -1,24 +1,29 @@
 #!/bin/sh
-# The proved calls beside the original Rust, which is compiled unchanged from the folder in TYCHO_SRC (it holds core/src/storage/shard_state).
-# The original's hash is built twice: portable, and the best that the machine has.
+# The proved calls beside the original Rust, which is compiled unchanged from the folder in TYCHO_SRC (it holds core/src/storage/shard_state), in one
+# process: a table with a line for each comparison, the ratios of the speeds last (1: as fast as the original). Each line has seen both sides give the same answer.
 #
-#   TYCHO_SRC=DIR run.sh [WORD ..]     a line for each comparison whose name has one of the words, the ratio of the speeds last
-#                                      (1: as fast as the original).
+#   TYCHO_SRC=DIR run.sh [--quick] [WORD ..]     only the lines whose names have one of the words; quick: fewer turns
+#
+# The original's hash is the best that the machine has; a second table, of hash and records, has it built portable. The port is
+# linked from the folder in SELVAIGO_LIB, or else made anew by `rt staticlib node_abi`.
 #
 # Needs Debian's packages librust-{ahash,anyhow,blake3,bytes,dashmap,hashbrown,libc,parking-lot,rayon,thiserror,tracing}-dev and
 # libroaring-dev, and Rust 1.95.
 set -eu
 TYCHO_SRC=$(cd "${TYCHO_SRC:?the folder that holds core/src/storage/shard_state}" && pwd)
 export TYCHO_SRC
+if [ -n "${SELVAIGO_LIB:-}" ]; then
+    SELVAIGO_LIB=$(cd "$SELVAIGO_LIB" && pwd)
+    export SELVAIGO_LIB
+fi
 cd "$(dirname "$0")"
-(cd ../.. && rt staticlib node_bench_abi >/dev/null)
-target=../../target/bench
-for kind in portable best; do
-    cargo build --quiet --release --features "$kind" --target-dir "$target/node_$kind"
+[ -n "${SELVAIGO_LIB:-}" ] || (cd ../.. && rt staticlib node_abi >/dev/null)
+target=../../target/bench/node
+for kind in best portable; do
+    cargo build --quiet --release --features "$kind" --target-dir "$target"
     echo "$kind:"
-    if [ "$kind" = portable ] && [ $# = 0 ]; then
-        "$target/node_$kind/release/bench_node" record
-    else
-        "$target/node_$kind/release/bench_node" "$@"
-    fi
+    case "$kind $*" in
+        "portable " | "portable --quick") set -- "$@" hash record ;;
+    esac
+    "$target/release/bench_node" "$@"
 done

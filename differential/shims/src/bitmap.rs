@@ -61,6 +61,8 @@ pub struct Portable;
 #[derive(Clone, Debug, Default)]
 pub struct Bitmap64 {
     halves: BTreeMap<u32, Half>,
+    /// What the next `shrink_to_fit` says instead of the library's figure.
+    pub saved: Option<usize>,
 }
 
 fn high(x: u64) -> u32 {
@@ -100,6 +102,11 @@ impl Bitmap64 {
                 unsafe { roaring_bitmap_remove_many(h.0, low.len(), low.as_ptr()) }
             }
         }
+        self.drop_empty();
+    }
+
+    // The node's library keeps no empty bucket.
+    fn drop_empty(&mut self) {
         self.halves.retain(|_, h| !unsafe { roaring_bitmap_is_empty(h.0) });
     }
 
@@ -115,7 +122,8 @@ impl Bitmap64 {
     }
 
     pub fn shrink_to_fit(&mut self) -> usize {
-        self.halves.values().map(|h| unsafe { roaring_bitmap_shrink_to_fit(h.0) }).sum()
+        let freed = self.halves.values().map(|h| unsafe { roaring_bitmap_shrink_to_fit(h.0) }).sum();
+        self.saved.take().unwrap_or(freed)
     }
 
     pub fn get_serialized_size_in_bytes<F>(&self) -> usize {
@@ -153,6 +161,7 @@ impl Bitmap64 {
             set.halves.insert(u32::from_le_bytes(*k), Half(raw));
             rest = &behind[len..];
         }
+        set.drop_empty();
         Some(set)
     }
 }

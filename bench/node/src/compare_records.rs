@@ -1,0 +1,91 @@
+// The hash, records, and a journal.
+use std::hint::black_box;
+use std::num::NonZeroUsize;
+use std::sync::Arc;
+
+use rayon::ThreadPool;
+use selvaigo::{DeltaItems, decode_record, encode_items, raw};
+
+use super::super::cell_nursery::{CellNursery, NurseryDelta};
+use super::super::nursery_persistence::format;
+use super::compare_nursery::same_entries;
+use super::{insert, items_of, mixed, with_commas};
+use crate::measure::{Run, side};
+
+pub fn hash(run: &Run, len: u64) {
+    let what = format!("hash, {} bytes", with_commas(len));
+    if !run.wanted(&what) {
+        return;
+    }
+    let bytes: Vec<u8> = (0..len).map(|i| mixed(i) as u8).collect();
+    assert_eq!(&selvaigo::hash(&bytes), blake3::hash(&bytes).as_bytes());
+    let ours = side(1, || _ = black_box(selvaigo::hash(black_box(&bytes))));
+    let theirs = side(1, || drop(black_box(blake3::hash(black_box(&bytes)))));
+    run.line(&what, [ours, theirs]);
+}
+
+pub fn record(run: &Run, inserts: u64) {
+    let what = format!("record, {} inserts", with_commas(inserts));
+    if !run.wanted(&what) {
+        return;
+    }
+    let delta = NurseryDelta { inserts: (0..inserts).map(insert).collect(), removes: Vec::new() };
+    let bytes = items_of(&delta.inserts);
+    let items = DeltaItems::borrowed(inserts, 0, &bytes);
+    let record = format::encode_record(5, &delta).bytes().to_vec();
+    let mut out = vec![0; record.len()];
+    let (len, written) = encode_items(5, &items, &mut out).unwrap();
+    assert!(len == record.len() && out == record, "the two records differ");
+    let mut buffer = Vec::new();
+    same_record(&record, &bytes, written, &mut buffer);
+
+    let ours = side(1, || _ = black_box(encode_items(5, &items, &mut out)));
+    let theirs = side(1, || drop(black_box(format::encode_record(5, &delta))));
+    run.line(&format!("{what}: encode"), [ours, theirs]);
+    let ours = side(1, || drop(black_box(decode_record(&record))));
+    let theirs = side(1, || drop(black_box(format::decode_record(&mut &record[..], &mut buffer).unwrap())));
+    run.line(&format!("{what}: decode"), [ours, theirs]);
+}
+
+fn same_record(record: &[u8], items: &[u8], written: selvaigo::RecordStats, buffer: &mut Vec<u8>) {
+    let theirs = format::decode_record(&mut &record[..], buffer).unwrap();
+    let ours = decode_record(record).unwrap();
+    assert!(*ours.items.bytes == *items, "the port's items differ");
+    assert!(format::encode_record(5, &theirs.delta).bytes()[..] == *record, "the original's items differ");
+    assert_eq!((ours.id, ours.hash, ours.stats), (theirs.id, theirs.hash, written));
+    let (a, b) = (ours.stats, theirs.stats);
+    assert_eq!(
+        (a.payload_bytes, a.metadata_bytes, a.cell_bytes, a.insert_ops, a.remove_ops),
+        (b.payload_bytes, b.metadata_bytes, b.cell_bytes, b.insert_ops, b.remove_ops),
+    );
+}
+
+// Records of one insert, read into an empty nursery; the original's are decoded and applied one by one, in one stripe.
+pub fn journal(run: &Run, pool: &Arc<ThreadPool>, records: u64) {
+    let what = format!("journal, {} records", with_commas(records));
+    if !run.wanted(&what) {
+        return;
+    }
+    let delta = |i: u64| NurseryDelta { inserts: vec![insert(i)], removes: Vec::new() };
+    let journal: Vec<u8> = (0..records).flat_map(|i| format::encode_record(i, &delta(i)).bytes().to_vec()).collect();
+    let mut buffer = Vec::new();
+    let mut original = || {
+        let nursery = CellNursery::new(NonZeroUsize::MIN, pool.clone());
+        let mut rest = &journal[..];
+        while !rest.is_empty() {
+            nursery.apply_commit(format::decode_record(&mut rest, &mut buffer).unwrap().delta);
+        }
+        nursery
+    };
+    let n = records as usize;
+    let (nursery, end) = selvaigo::read_journal(&journal, n, 100 * n);
+    assert_eq!((end.applied, end.place, end.refusal), (records, journal.len(), None));
+    same_entries(&original(), &nursery);
+
+    let mut p = nursery.into_parts();
+    let ours = side(1, || {
+        _ = black_box(raw::read_journal(&journal, &mut p.nursery, &mut p.entries, &mut p.waiting, &mut p.cells));
+    });
+    let theirs = side(1, || drop(black_box(original())));
+    run.line(&what, [ours, theirs]);
+}

@@ -1,0 +1,219 @@
+//! The port's side: the crate `selvaigo` over tables of the run's sizes. A call that changes nothing is made in both forms, held and checked,
+//! which have to agree; the others are made in the form that the run names. A checked call's tables are judged again after it.
+use selvaigo::{CellNursery, CounterTransition, Counters, DeltaItems, HashBytes, Idx, NextIdx, NurseryParts, PromotedCell, Refusal, raw};
+
+use crate::definition::{Drained, Refused, items};
+use crate::steps::{Delta, Hash, Sizes};
+
+pub struct Port {
+    held: bool,
+    pub counters: Counters,
+    pub nursery: CellNursery,
+}
+
+/// The five figures of a record.
+pub type Stats = [u64; 5];
+
+pub struct Decoded<'a> {
+    pub id: u64,
+    pub hash: Hash,
+    pub stats: Stats,
+    pub items: &'a [u8],
+}
+
+fn number<T>(answer: Result<T, Refusal>) -> Refused<T> {
+    answer.map_err(Refusal::number)
+}
+
+/// Both forms' answer.
+fn agreed<T: PartialEq + std::fmt::Debug>(held: T, checked: T) -> T {
+    assert_eq!(held, checked, "the port's held and checked forms differ");
+    held
+}
+
+fn stats(s: selvaigo::RecordStats) -> Stats {
+    [s.payload_bytes, s.metadata_bytes, s.cell_bytes, s.insert_ops, s.remove_ops]
+}
+
+fn lent(delta: &Delta) -> DeltaItems<'static> {
+    let wide = delta.inserts.iter().any(|i| i.cell.len() > 65_535);
+    DeltaItems {
+        wide,
+        inserts: delta.inserts.len() as u64,
+        removes: delta.removes.len() as u64,
+        bytes: items(delta, wide).into(),
+    }
+}
+
+fn words(batch: &[[u64; 3]]) -> Vec<u64> {
+    batch.iter().flatten().copied().collect()
+}
+
+/// Tables of any content, for calls that take such.
+fn unread(sizes: &Sizes) -> NurseryParts {
+    NurseryParts {
+        nursery: [7; 3],
+        entries: vec![7; sizes.entries].into(),
+        waiting: vec![7; sizes.waiting].into(),
+        cells: vec![7; sizes.cells].into(),
+    }
+}
+
+impl Port {
+    pub fn new(sizes: &Sizes) -> Self {
+        let (mut state, mut counts) = ([7; 13], vec![7; sizes.counts]);
+        raw::new(NextIdx::new(sizes.next), &mut state, &mut counts).unwrap();
+        let counters = Counters::from_parts(state, counts.into()).unwrap();
+        Port { held: sizes.held, counters, nursery: Self::empty(sizes) }
+    }
+
+    fn empty(sizes: &Sizes) -> CellNursery {
+        let mut p = unread(sizes);
+        raw::nursery_new(&mut p.nursery, &mut p.entries, &mut p.waiting, &mut p.cells).unwrap();
+        CellNursery::from_parts(p).unwrap()
+    }
+
+    /// A call over the record and the table of the counters, lent.
+    fn lend<T>(&mut self, call: impl FnOnce(&mut [u64], &mut [u64]) -> Result<T, Refusal>) -> Refused<T> {
+        let (mut state, mut counts) = std::mem::replace(&mut self.counters, Counters::new(NextIdx::new(0), 0)).into_parts();
+        let answer = call(&mut state, &mut counts);
+        self.counters = Counters::from_parts(state, counts).expect("a state after a call");
+        number(answer)
+    }
+
+    fn lend_nursery<T>(&mut self, call: impl FnOnce(&mut NurseryParts) -> Result<T, Refusal>) -> Refused<T> {
+        let mut parts = std::mem::replace(&mut self.nursery, CellNursery::new(0, 0)).into_parts();
+        let answer = call(&mut parts);
+        self.nursery = CellNursery::from_parts(parts).expect("a state after a call");
+        number(answer)
+    }
+
+    pub fn new_counters(&mut self, next: u64) {
+        self.lend(|state, counts| raw::new(NextIdx::new(next), state, counts)).unwrap();
+    }
+
+    pub fn alloc_idx(&mut self) -> Refused<u64> {
+        number(self.counters.alloc_idx()).map(Idx::get)
+    }
+
+    pub fn apply_batch(&mut self, batch: &[[u64; 3]]) -> Refused<()> {
+        if !self.held {
+            return self.lend(|state, counts| raw::apply_batch(state, counts, &words(batch)));
+        }
+        let transition = |[idx, old, new]: &[u64; 3]| CounterTransition { idx: Idx::new(*idx), old_raw: *old, new_raw: *new };
+        number(self.counters.apply_batch(&batch.iter().map(transition).collect::<Vec<_>>()))
+    }
+
+    pub fn get(&self, idx: u64) -> Refused<u64> {
+        let (c, idx) = (&self.counters, Idx::new(idx));
+        agreed(number(c.get(idx)), number(raw::get(c.state(), c.counts(), idx))).map(|count| count.get())
+    }
+
+    pub fn set_figures(&mut self, figures: &[u64; 10]) {
+        self.lend(|state, _| {
+            state[3..].copy_from_slice(figures);
+            Ok(())
+        })
+        .unwrap();
+    }
+
+    pub fn shrink_if_needed(&mut self, saved: u64) -> [u64; 9] {
+        let yes = if self.held {
+            self.counters.shrink_if_needed(saved)
+        } else {
+            self.lend(|state, counts| raw::shrink_if_needed(state, counts, saved)).unwrap()
+        };
+        let mut all = [u64::from(yes.alive); 9];
+        yes.small.iter().zip(&mut all[1..]).for_each(|(from, to)| *to = u64::from(*from));
+        all
+    }
+
+    pub fn serialized_len(&self) -> usize {
+        let c = &self.counters;
+        agreed(c.serialized_len(), raw::serialized_len(c.state(), c.counts()).unwrap())
+    }
+
+    /// What is in the output before stays where the answer isn't.
+    pub fn serialize(&self, out: &mut Vec<u8>) -> Refused<usize> {
+        let c = &self.counters;
+        let mut other = out.clone();
+        let len = agreed(c.serialize_into(out), raw::serialize(c.state(), c.counts(), &mut other));
+        assert!(*out == other, "the port's held and checked snapshots differ");
+        number(len)
+    }
+
+    pub fn deserialize_trusted(&mut self, snapshot: &[u8]) -> Refused<()> {
+        self.lend(|state, counts| {
+            let before = (counts.len() <= 4096).then(|| (state.to_vec(), counts.to_vec()));
+            let answer = raw::deserialize_trusted(snapshot, state, counts);
+            if let (Some((s, c)), Err(_)) = (before, &answer) {
+                assert!(s == state && c == counts, "a refused snapshot changes the port's tables");
+            }
+            answer
+        })
+    }
+
+    pub fn new_nursery(&mut self, sizes: &Sizes) {
+        self.nursery = Self::empty(sizes);
+    }
+
+    pub fn apply_commit(&mut self, delta: &Delta) -> Refused<()> {
+        let items = lent(delta);
+        if self.held {
+            return number(self.nursery.apply_items(&items));
+        }
+        self.lend_nursery(|p| raw::apply_commit(&mut p.nursery, &mut p.entries, &mut p.waiting, &mut p.cells, &items))
+    }
+
+    pub fn drain_promotable(&mut self, round: u32, out: &mut [u8]) -> Refused<usize> {
+        if self.held {
+            return number(self.nursery.drain_promotable_into(round, out));
+        }
+        self.lend_nursery(|p| raw::drain_promotable(&mut p.nursery, &p.entries, &mut p.waiting, &p.cells, round, out))
+    }
+
+    pub fn drained(out: &[u8]) -> Drained {
+        PromotedCell::all(out).map(|cell| (cell.hash.0, cell.idx.get(), cell.data.to_vec())).collect()
+    }
+
+    pub fn lookup(&self, hash: &Hash) -> Option<(u64, Vec<u8>)> {
+        let (n, hash) = (&self.nursery, HashBytes(*hash));
+        let idx = agreed(n.get_idx(&hash), raw::get_idx(n.nursery(), n.entries(), &hash).unwrap());
+        let place = raw::get_data(n.nursery(), n.entries(), n.cells(), &hash).unwrap();
+        let cell = agreed(n.get(&hash), place.map(|p| &n.cells()[p]));
+        assert_eq!(n.get_data(&hash), idx.zip(cell));
+        idx.zip(cell).map(|(idx, cell)| (idx.get(), cell.to_vec()))
+    }
+
+    pub fn snapshot_entries(&self, out: &mut Vec<u8>) -> Refused<usize> {
+        let n = &self.nursery;
+        let mut other = out.clone();
+        let len = agreed(n.snapshot_entries_into(out), raw::snapshot_entries(n.nursery(), n.entries(), n.cells(), &mut other));
+        assert!(*out == other, "the port's held and checked listings differ");
+        number(len)
+    }
+
+    pub fn encode_record(id: u64, delta: &Delta, out: &mut [u8]) -> Refused<(usize, Stats)> {
+        number(selvaigo::encode_items(id, &lent(delta), out)).map(|(len, s)| (len, stats(s)))
+    }
+
+    pub fn decode_record(bytes: &[u8]) -> Refused<Decoded<'_>> {
+        let d = number(selvaigo::decode_record(bytes))?;
+        let std::borrow::Cow::Borrowed(items) = d.items.bytes else { panic!("items that aren't in the record's bytes") };
+        Ok(Decoded { id: d.id, hash: d.hash, stats: stats(d.stats), items })
+    }
+
+    /// Records applied, the place after them, and the number. The nursery is the one that was read, if it is to be kept, else as before.
+    pub fn read_journal(&mut self, journal: &[u8], sizes: &Sizes, keep: bool) -> ((usize, usize, u8), Vec<u8>) {
+        let mut p = unread(sizes);
+        let end = raw::read_journal(journal, &mut p.nursery, &mut p.entries, &mut p.waiting, &mut p.cells);
+        let read = CellNursery::from_parts(p).expect("a state after a journal");
+        let mut out = vec![0; read.snapshot_entries_len()];
+        let len = read.snapshot_entries_into(&mut out).unwrap();
+        assert_eq!(len, out.len());
+        if keep {
+            self.nursery = read;
+        }
+        ((end.applied as usize, end.place, end.refusal.map_or(0, Refusal::number)), out)
+    }
+}

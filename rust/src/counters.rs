@@ -1,0 +1,331 @@
+//! The counters of a box.
+use std::fmt;
+
+use crate::{Refusal, raw, size, sys, taken, words};
+
+/// The index of a cell.
+#[derive(Debug, Clone, Copy, PartialEq, Eq, Hash, PartialOrd, Ord)]
+#[repr(transparent)]
+pub struct Idx(u64);
+
+/// The next index that is to be handed out.
+#[derive(Debug, Clone, Copy, PartialEq, Eq, Hash, PartialOrd, Ord)]
+#[repr(transparent)]
+pub struct NextIdx(u64);
+
+/// How many references a cell has.
+#[derive(Debug, Clone, Copy, PartialEq, Eq, Hash, PartialOrd, Ord)]
+#[repr(transparent)]
+pub struct RefCount(u64);
+
+macro_rules! number {
+    ($name:ident) => {
+        impl $name {
+            /// The number as what it stands for.
+            pub const fn new(value: u64) -> Self {
+                Self(value)
+            }
+
+            /// The number.
+            pub const fn get(self) -> u64 {
+                self.0
+            }
+        }
+    };
+}
+
+number!(Idx);
+number!(NextIdx);
+number!(RefCount);
+
+impl RefCount {
+    /// What an allocated index with nothing stored reads.
+    pub const ONE: Self = Self(1);
+
+    /// The least count of the large tier.
+    pub const BIG_MIN: Self = Self(257);
+}
+
+/// A count that changes: what it is before the batch, and after it. 0 is no reference: a birth comes from it, a death goes to it.
+#[derive(Debug, Clone, Copy, PartialEq, Eq, Hash)]
+#[repr(C)]
+pub struct CounterTransition {
+    /// Whose count.
+    pub idx: Idx,
+    /// The count before.
+    pub old_raw: u64,
+    /// The count after.
+    pub new_raw: u64,
+}
+
+/// Figures on removals since the sets were shrunk.
+#[derive(Debug, Clone, Copy, PartialEq, Eq)]
+pub struct CounterMaintenance {
+    /// Counts that fell to one or none.
+    pub alive_removed_since_shrink: u64,
+    /// Bits cleared in each of the eight sets, bit 0 first.
+    pub small_removed_since_shrink: [u64; 8],
+    /// The least alive removals that call for shrinking.
+    pub min_alive_removed_before_shrink: u64,
+}
+
+/// Which sets are to be shrunk.
+#[derive(Debug, Clone, Copy, PartialEq, Eq)]
+pub struct Shrunk {
+    /// The set of all stored indices.
+    pub alive: bool,
+    /// The eight sets of small counts, bit 0 first.
+    pub small: [bool; 8],
+}
+
+impl Shrunk {
+    pub(crate) fn of(words: [u64; 9]) -> Self {
+        Self { alive: words[0] != 0, small: std::array::from_fn(|bit| words[bit + 1] != 0) }
+    }
+}
+
+/// Whether so many removals call for shrinking a set.
+pub fn should_shrink(alive: u64, removed_since_shrink: u64, min_removed: u64) -> bool {
+    // SAFETY: numbers only.
+    unsafe { sys::selvaigo_should_shrink(alive, removed_since_shrink, min_removed) != 0 }
+}
+
+/// The alive threshold after a shrinking that saved so many bytes.
+pub fn adjust_shrink_threshold(min_alive_removed_before_shrink: u64, bytes_saved: u64) -> u64 {
+    // SAFETY: numbers only.
+    unsafe { sys::selvaigo_adjust_shrink_threshold(min_alive_removed_before_shrink, bytes_saved) }
+}
+
+/// Counts of references, by index, in a table that they own. Nothing but the port writes it, so no call checks it.
+#[derive(Clone)]
+pub struct Counters {
+    state: [u64; sys::STATE],
+    counts: Box<[u64]>,
+}
+
+// SAFETY, of every held call below: record and table are those that the port's calls have written, or that `from_parts` has seen to hold a
+// state; no method lends them to be written. Pointers and lengths are those of slices and arrays borrowed for the call.
+impl Counters {
+    /// Counters with nothing stored, with room for so many counts above 1.
+    ///
+    /// # Panics
+    ///
+    /// Where that is more than a slice can have.
+    pub fn new(next_idx: NextIdx, room: usize) -> Self {
+        let mut counters = Self { state: [0; sys::STATE], counts: vec![0; words(room, 2)].into() };
+        let Self { state, counts } = &mut counters;
+        raw::new(next_idx, state, counts).expect("a record of the right length");
+        counters
+    }
+
+    /// The counters that a snapshot holds, with room for so many counts above 1.
+    ///
+    /// # Panics
+    ///
+    /// Where that is more than a slice can have.
+    pub fn deserialize_trusted(snapshot: &[u8], room: usize) -> Result<Self, Refusal> {
+        let mut counters = Self { state: [0; sys::STATE], counts: vec![0; words(room, 2)].into() };
+        let Self { state, counts } = &mut counters;
+        raw::deserialize_trusted(snapshot, state, counts)?;
+        Ok(counters)
+    }
+
+    /// The counters of a record and a table of docs/LAYOUT.md, where these hold a state.
+    pub fn from_parts(state: [u64; sys::STATE], counts: Box<[u64]>) -> Result<Self, Refusal> {
+        let mut counters = Self { state, counts };
+        let Self { state, counts } = &mut counters;
+        // An empty batch is taken by every state and changes none.
+        raw::apply_batch(state, counts, &[])?;
+        Ok(counters)
+    }
+
+    /// Record and table, for the caller to own.
+    pub fn into_parts(self) -> ([u64; sys::STATE], Box<[u64]>) {
+        (self.state, self.counts)
+    }
+
+    /// The record, word by word.
+    pub fn state(&self) -> &[u64; sys::STATE] {
+        &self.state
+    }
+
+    /// The table, word by word.
+    pub fn counts(&self) -> &[u64] {
+        &self.counts
+    }
+
+    /// The next index that is to be handed out.
+    pub fn next_idx(&self) -> NextIdx {
+        NextIdx(self.state[0])
+    }
+
+    /// The live total.
+    pub fn live_cells(&self) -> u64 {
+        self.state[1]
+    }
+
+    /// How many counts above 1 are stored.
+    pub fn stored(&self) -> usize {
+        size(self.state[2])
+    }
+
+    /// How many there is room for.
+    pub fn room(&self) -> usize {
+        self.counts.len() / 2
+    }
+
+    /// The figures on removals.
+    pub fn maintenance(&self) -> CounterMaintenance {
+        CounterMaintenance {
+            alive_removed_since_shrink: self.state[3],
+            small_removed_since_shrink: std::array::from_fn(|bit| self.state[4 + bit]),
+            min_alive_removed_before_shrink: self.state[12],
+        }
+    }
+
+    /// The stored counts, by ascending index.
+    pub fn iter(&self) -> impl Iterator<Item = (Idx, RefCount)> + '_ {
+        self.counts.chunks_exact(2).take(self.stored()).map(|row| (Idx(row[0]), RefCount(row[1])))
+    }
+
+    /// The next index, handed out.
+    pub fn alloc_idx(&mut self) -> Result<Idx, Refusal> {
+        raw::alloc_idx(&mut self.state)
+    }
+
+    /// The count at an index that was handed out.
+    pub fn get(&self, idx: Idx) -> Result<RefCount, Refusal> {
+        let mut count = [0];
+        // SAFETY: held, see above.
+        Refusal::of(unsafe {
+            sys::selvaigo_get_held(
+                self.state.as_ptr(),
+                self.state.len(),
+                self.counts.as_ptr(),
+                self.counts.len(),
+                idx.0,
+                &mut count,
+            )
+        })?;
+        Ok(RefCount(count[0]))
+    }
+
+    /// A batch that is gathered one transition after another.
+    pub fn begin(&mut self) -> CounterBatch<'_> {
+        CounterBatch { counters: self, transitions: Vec::new() }
+    }
+
+    /// A batch: all of it or nothing.
+    pub fn apply_batch(&mut self, batch: &[CounterTransition]) -> Result<(), Refusal> {
+        // SAFETY: held, see above. A transition is three words with nothing between them, and there are as many as fit in memory.
+        Refusal::of(unsafe {
+            sys::selvaigo_apply_batch_held(
+                self.state.as_mut_ptr(),
+                self.state.len(),
+                self.counts.as_mut_ptr(),
+                self.counts.len(),
+                batch.as_ptr().cast(),
+                batch.len() * 3,
+            )
+        })
+    }
+
+    /// Maintenance: which sets are to be shrunk, where shrinking the set of all stored indices saves so many bytes. A yes sets its removals to 0.
+    pub fn shrink_if_needed(&mut self, bytes_saved: u64) -> Shrunk {
+        let mut shrunk = [0; 9];
+        // SAFETY: held, see above.
+        taken(unsafe {
+            sys::selvaigo_shrink_if_needed_held(
+                self.state.as_mut_ptr(),
+                self.state.len(),
+                self.counts.as_ptr(),
+                self.counts.len(),
+                bytes_saved,
+                &mut shrunk,
+            )
+        });
+        Shrunk::of(shrunk)
+    }
+
+    /// How many bytes the snapshot takes.
+    pub fn serialized_len(&self) -> usize {
+        let mut len = [0];
+        // SAFETY: held, see above.
+        taken(unsafe {
+            sys::selvaigo_serialized_len_held(
+                self.state.as_ptr(),
+                self.state.len(),
+                self.counts.as_ptr(),
+                self.counts.len(),
+                &mut len,
+            )
+        });
+        size(len[0])
+    }
+
+    /// The snapshot.
+    pub fn serialize(&self) -> Vec<u8> {
+        let mut out = vec![0; self.serialized_len()];
+        let len = self.serialize_into(&mut out).expect("an output of the stated length");
+        debug_assert_eq!(len, out.len());
+        out
+    }
+
+    /// The snapshot, into the front of `out`: its length. Only an output that is too short is refused.
+    pub fn serialize_into(&self, out: &mut [u8]) -> Result<usize, Refusal> {
+        let mut len = [0];
+        // SAFETY: held, see above.
+        Refusal::of(unsafe {
+            sys::selvaigo_serialize_held(
+                self.state.as_ptr(),
+                self.state.len(),
+                self.counts.as_ptr(),
+                self.counts.len(),
+                out.as_mut_ptr(),
+                out.len(),
+                &mut len,
+            )
+        })?;
+        Ok(size(len[0]))
+    }
+}
+
+impl fmt::Debug for Counters {
+    fn fmt(&self, f: &mut fmt::Formatter<'_>) -> fmt::Result {
+        f.debug_struct("Counters")
+            .field("next_idx", &self.next_idx())
+            .field("live_cells", &self.live_cells())
+            .field("stored", &self.stored())
+            .field("room", &self.room())
+            .finish_non_exhaustive()
+    }
+}
+
+/// A batch in the making. Dropped before [`CounterBatch::apply`] it changes nothing but what was allocated.
+#[derive(Debug)]
+pub struct CounterBatch<'a> {
+    counters: &'a mut Counters,
+    transitions: Vec<CounterTransition>,
+}
+
+impl CounterBatch<'_> {
+    /// Makes room for so many more transitions.
+    pub fn reserve(&mut self, additional: usize) {
+        self.transitions.reserve(additional);
+    }
+
+    /// The next index, handed out at once.
+    pub fn alloc_idx(&mut self) -> Result<Idx, Refusal> {
+        self.counters.alloc_idx()
+    }
+
+    /// One more transition.
+    pub fn update_raw(&mut self, idx: Idx, old_raw: u64, new_raw: u64) {
+        self.transitions.push(CounterTransition { idx, old_raw, new_raw });
+    }
+
+    /// The batch: all of it or nothing.
+    pub fn apply(self) -> Result<(), Refusal> {
+        self.counters.apply_batch(&self.transitions)
+    }
+}

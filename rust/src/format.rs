@@ -1,0 +1,144 @@
+//! Records, and the hash.
+use std::borrow::Cow;
+
+use crate::{DeltaItems, NurseryDelta, Refusal, size, sys};
+
+/// Bytes in a hash.
+pub const HASH_LEN: usize = 32;
+
+// The hash and the length in front of a record's payload.
+const PREFIX_LEN: usize = HASH_LEN + 8;
+
+// The id and the two numbers of items in front of a payload's items.
+const COUNTS_LEN: usize = 16;
+
+/// BLAKE3 of bytes.
+pub fn hash(bytes: &[u8]) -> [u8; HASH_LEN] {
+    let mut hash = [0; HASH_LEN];
+    // SAFETY: a slice, and an array to write.
+    unsafe { sys::selvaigo_hash(bytes.as_ptr(), bytes.len(), &mut hash) };
+    hash
+}
+
+/// The figures of a record.
+#[derive(Debug, Clone, Copy, PartialEq, Eq, Default)]
+pub struct RecordStats {
+    /// Bytes of the payload.
+    pub payload_bytes: u64,
+    /// Those of them that aren't bytes of cells.
+    pub metadata_bytes: u64,
+    /// Bytes of cells.
+    pub cell_bytes: u64,
+    /// Inserts.
+    pub insert_ops: u64,
+    /// Removes.
+    pub remove_ops: u64,
+}
+
+impl RecordStats {
+    fn of(figures: [u64; 5]) -> Self {
+        let [payload_bytes, metadata_bytes, cell_bytes, insert_ops, remove_ops] = figures;
+        Self { payload_bytes, metadata_bytes, cell_bytes, insert_ops, remove_ops }
+    }
+}
+
+/// A record that was written.
+#[derive(Debug, Clone, PartialEq, Eq)]
+pub struct EncodedRecord {
+    id: u64,
+    bytes: Vec<u8>,
+    stats: RecordStats,
+}
+
+impl EncodedRecord {
+    /// The id that it was given.
+    pub fn id(&self) -> u64 {
+        self.id
+    }
+
+    /// Its bytes.
+    pub fn bytes(&self) -> &[u8] {
+        &self.bytes
+    }
+
+    /// Its hash, which covers length and payload.
+    pub fn hash(&self) -> &[u8; HASH_LEN] {
+        self.bytes.first_chunk().expect("a record starts with its hash")
+    }
+
+    /// Its figures.
+    pub fn stats(&self) -> &RecordStats {
+        &self.stats
+    }
+}
+
+/// The record of a delta. A cell or a list that is too long is refused.
+pub fn encode_record(id: u64, delta: &NurseryDelta) -> Result<EncodedRecord, Refusal> {
+    encoded(id, &delta.to_items()?)
+}
+
+pub(crate) fn encoded(id: u64, items: &DeltaItems<'_>) -> Result<EncodedRecord, Refusal> {
+    let mut bytes = vec![0; PREFIX_LEN + COUNTS_LEN + items.bytes.len()];
+    let (len, stats) = encode_items(id, items, &mut bytes)?;
+    bytes.truncate(len);
+    Ok(EncodedRecord { id, bytes, stats })
+}
+
+/// The record of a delta that is at hand as bytes, into the front of `out`: its length and figures.
+pub fn encode_items(id: u64, items: &DeltaItems<'_>, out: &mut [u8]) -> Result<(usize, RecordStats), Refusal> {
+    let mut figures = [0; 6];
+    // SAFETY: slices, and an array to write; none overlaps another.
+    Refusal::of(unsafe {
+        sys::selvaigo_encode_record(
+            id,
+            items.wide.into(),
+            items.inserts,
+            items.removes,
+            items.bytes.as_ptr(),
+            items.bytes.len(),
+            out.as_mut_ptr(),
+            out.len(),
+            &mut figures,
+        )
+    })?;
+    let [len, stats @ ..] = figures;
+    Ok((size(len), RecordStats::of(stats)))
+}
+
+/// A record that was read.
+#[derive(Debug, Clone, PartialEq, Eq)]
+pub struct DecodedRecord<'a> {
+    /// Its id.
+    pub id: u64,
+    /// Its hash.
+    pub hash: [u8; HASH_LEN],
+    /// Its delta's items, in the bytes that were read.
+    pub items: DeltaItems<'a>,
+    /// Its figures.
+    pub stats: RecordStats,
+}
+
+impl DecodedRecord<'_> {
+    /// How many bytes it takes: the next record of a journal starts there.
+    pub fn record_len(&self) -> usize {
+        PREFIX_LEN + size(self.stats.payload_bytes)
+    }
+
+    /// Its delta.
+    pub fn delta(&self) -> NurseryDelta {
+        self.items.to_delta().expect("items that fit were read")
+    }
+}
+
+/// The record that bytes start with.
+pub fn decode_record(bytes: &[u8]) -> Result<DecodedRecord<'_>, Refusal> {
+    let mut figures = [0; 8];
+    let mut hash = [0; HASH_LEN];
+    // SAFETY: a slice, and two arrays to write.
+    Refusal::of(unsafe { sys::selvaigo_decode_record(bytes.as_ptr(), bytes.len(), &mut figures, &mut hash) })?;
+    let [id, place, len, stats @ ..] = figures;
+    let stats = RecordStats::of(stats);
+    let items = &bytes[size(place)..][..size(len)];
+    let items = DeltaItems { wide: false, inserts: stats.insert_ops, removes: stats.remove_ops, bytes: Cow::Borrowed(items) };
+    Ok(DecodedRecord { id, hash, items, stats })
+}

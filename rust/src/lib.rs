@@ -1,0 +1,63 @@
+//! The storage core of a network node, for a node in Rust: it counts references to stored cells, holds young cells until they are promoted, and
+//! writes and reads their snapshots, records and journals. The work is done by a library that is proved; this crate owns the tables that the library is lent, so
+//! that nothing else writes them, and says refusals as [`Refusal`].
+//!
+//! A [`NodeBox`] is [`Counters`] and a [`CellNursery`], in tables whose [`Room`] the caller chooses. A call is taken whole or refused whole.
+//!
+//! ```
+//! use selvaigo::{CounterTransition, NextIdx, NodeBox, RefCount, Room};
+//!
+//! let room = Room { counts: 1_024, entries: 256, cell_bytes: 16_384 };
+//! let mut node = NodeBox::new(NextIdx::new(0), room);
+//! let idx = node.counters.alloc_idx()?;
+//! node.counters.apply_batch(&[CounterTransition { idx, old_raw: 0, new_raw: 3 }])?;
+//! assert_eq!(node.counters.get(idx)?, RefCount::new(3));
+//!
+//! let again = NodeBox::restore(&node.counters.serialize(), &[], room)?;
+//! assert_eq!(again.node_box.counters.get(idx)?, RefCount::new(3));
+//! # Ok::<(), selvaigo::Refusal>(())
+//! ```
+//!
+//! The library, libnode_abi.a, is linked from the folder in the environment variable `SELVAIGO_LIB`, or else from `target/staticlib` beside this crate's
+//! folder, where `rt staticlib node_abi` writes it.
+//!
+//! [`raw`] has the same calls over tables that the caller lends, checked in each call, and [`sys`] the C calls as they are.
+#![deny(missing_docs)]
+#![deny(unsafe_op_in_unsafe_fn)]
+
+mod cell_nursery;
+mod counters;
+mod format;
+mod node_box;
+pub mod raw;
+mod refusal;
+pub mod sys;
+
+pub use cell_nursery::{
+    CellNursery, DeltaItems, HashBytes, JournalEnd, NurseryDelta, NurseryEntryRecord, NurseryParts, PROMOTION_DELAY_ROUNDS,
+    PromotedCell, read_journal,
+};
+pub use counters::{
+    CounterBatch, CounterMaintenance, CounterTransition, Counters, Idx, NextIdx, RefCount, Shrunk, adjust_shrink_threshold,
+    should_shrink,
+};
+pub use format::{DecodedRecord, EncodedRecord, HASH_LEN, RecordStats, decode_record, encode_items, encode_record, hash};
+pub use node_box::{NodeBox, Restored, Room};
+pub use refusal::Refusal;
+
+// The length of a table of so many rows. Tables are asked for when a box is made; more than a slice can be is the caller's mistake, as it is for a `Vec`.
+fn words(rows: usize, width: usize) -> usize {
+    rows.checked_mul(width).expect("more room than a slice can have")
+}
+
+// A number of the port's that counts what lies in memory.
+fn size(number: u64) -> usize {
+    usize::try_from(number).expect("a length in memory")
+}
+
+// The answer of a held call over tables that the port wrote, where nothing is left to refuse.
+fn taken(answer: u8) {
+    if let Err(refusal) = Refusal::of(answer) {
+        panic!("the port refused its own tables: {refusal}");
+    }
+}

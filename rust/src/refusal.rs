@@ -1,0 +1,101 @@
+//! Refusals, with their numbers and words.
+use std::error::Error;
+use std::fmt;
+
+macro_rules! refusals {
+    ($($(#[$doc:meta])* $name:ident = $number:literal, $word:literal;)*) => {
+        /// Why a call was refused. A refused call has changed nothing.
+        #[derive(Debug, Clone, Copy, PartialEq, Eq, Hash, PartialOrd, Ord)]
+        #[repr(u8)]
+        pub enum Refusal {
+            $($(#[$doc])* $name = $number,)*
+        }
+
+        impl Refusal {
+            /// All of them, by number.
+            pub const ALL: [Refusal; 20] = [$(Refusal::$name),*];
+
+            /// The refusal of that number; none has 0, which is no refusal, or a number above 20.
+            pub const fn from_number(number: u8) -> Option<Refusal> {
+                match number {
+                    $($number => Some(Refusal::$name),)*
+                    _ => None,
+                }
+            }
+
+            /// Its word, as `Display` writes it.
+            pub const fn word(self) -> &'static str {
+                match self {
+                    $(Refusal::$name => $word,)*
+                }
+            }
+        }
+    };
+}
+
+refusals! {
+    /// An allocation with the next index 2^64 - 1.
+    Spent = 1, "spent";
+    /// An index at or above the next one is read or changed.
+    Unallocated = 2, "unallocated";
+    /// Two kept transitions of a batch name one index.
+    Repeated = 3, "repeated";
+    /// The live total and the births exceed 2^64 - 1, or the deaths exceed both.
+    OffTotal = 4, "off total";
+    /// An old count isn't the stored one; with none stored, it isn't 0 or 1.
+    FalseOld = 5, "false old";
+    /// The stored counts after the call exceed the table.
+    TableFull = 6, "table full";
+    /// The first byte of a snapshot isn't 1.
+    Version = 7, "version";
+    /// A snapshot is empty, or ends before its eighth bitmap does.
+    TornSnapshot = 8, "torn snapshot";
+    /// A bitmap of a snapshot breaks the format.
+    BadBitmap = 9, "bad bitmap";
+    /// The rest of a snapshot isn't a multiple of 16, or a large count is below 257.
+    BadLarge = 10, "bad large";
+    /// An index is in both tiers of a snapshot, or not below its next index.
+    TierClash = 11, "tier clash";
+    /// An inserted hash is in the nursery, or inserted earlier in the delta.
+    Present = 12, "present";
+    /// The entries or cell bytes after the inserts, before the removes, exceed the tables.
+    NurseryFull = 13, "nursery full";
+    /// A cell has over 65,535 bytes, or a list over 2^32 - 1 items.
+    TooLong = 14, "too long";
+    /// The lent output is shorter than the answer.
+    OutputFull = 15, "output full";
+    /// A record has under 40 bytes, or fewer than 40 and its stated length.
+    ShortRecord = 16, "short record";
+    /// A stated length is at or above 2^64 - 8.
+    FarLength = 17, "far length";
+    /// The hash of a record is wrong.
+    Mismatch = 18, "mismatch";
+    /// A stated length is under 16, or the items run past it.
+    Misfit = 19, "misfit";
+    /// What is lent isn't in the layout of docs/LAYOUT.md.
+    Broken = 20, "broken";
+}
+
+impl Refusal {
+    /// Its number.
+    pub const fn number(self) -> u8 {
+        self as u8
+    }
+
+    // What an answer means. A number that no call gives is told apart from none: what gave it isn't the port.
+    pub(crate) fn of(answer: u8) -> Result<(), Refusal> {
+        match (answer, Refusal::from_number(answer)) {
+            (0, _) => Ok(()),
+            (_, Some(refusal)) => Err(refusal),
+            _ => panic!("the linked library gave the answer {answer}, which isn't the port's"),
+        }
+    }
+}
+
+impl fmt::Display for Refusal {
+    fn fmt(&self, f: &mut fmt::Formatter<'_>) -> fmt::Result {
+        f.write_str(self.word())
+    }
+}
+
+impl Error for Refusal {}

@@ -1,0 +1,213 @@
+//! Each refusal is reached, with its number, zeros beside it and nothing changed.
+use std::borrow::Cow;
+
+use selvaigo::{
+    CellNursery, CounterTransition, Counters, DeltaItems, HashBytes, Idx, NextIdx, NurseryDelta, NurseryEntryRecord,
+    NurseryParts, Refusal, decode_record, encode_items, encode_record, hash, raw, sys,
+};
+
+fn change(idx: u64, old_raw: u64, new_raw: u64) -> CounterTransition {
+    CounterTransition { idx: Idx::new(idx), old_raw, new_raw }
+}
+
+fn insert(tag: u8, data: Vec<u8>) -> NurseryDelta {
+    let entry = NurseryEntryRecord { hash: HashBytes([tag; 32]), idx: Idx::new(1), born_round: 0, data };
+    NurseryDelta { inserts: vec![entry], removes: vec![] }
+}
+
+// Counters at next 2 with live total 1 and count 2 at index 0, in a table of so much room.
+fn counters(room: usize) -> Counters {
+    let mut c = Counters::new(NextIdx::new(2), room);
+    c.apply_batch(&[change(0, 0, 2)]).unwrap();
+    c
+}
+
+fn refused(batch: &[CounterTransition], room: usize) -> u8 {
+    let mut c = counters(room);
+    let before = c.clone();
+    let refusal = c.apply_batch(batch).unwrap_err();
+    assert_eq!((c.state(), c.counts()), (before.state(), before.counts()));
+    refusal.number()
+}
+
+// The number that a snapshot of that next index, first payload and rest is refused with.
+fn read(version: u8, next: u64, payload: &[u8], rest: &[u8], room: usize) -> u8 {
+    let mut snapshot = vec![version];
+    snapshot.extend_from_slice(&next.to_le_bytes());
+    snapshot.extend_from_slice(&[0; 8]);
+    snapshot.extend_from_slice(&(payload.len() as u64).to_le_bytes());
+    snapshot.extend_from_slice(payload);
+    snapshot.extend_from_slice(&[vec![8], vec![0; 15]].concat().repeat(7));
+    snapshot.extend_from_slice(rest);
+    let (mut state, mut counts) = ([7; sys::STATE], vec![9; 2 * room]);
+    let refusal = raw::deserialize_trusted(&snapshot, &mut state, &mut counts).unwrap_err();
+    assert!(state == [7; sys::STATE] && counts == vec![9; 2 * room]);
+    assert_eq!(Counters::deserialize_trusted(&snapshot, room).unwrap_err(), refusal);
+    refusal.number()
+}
+
+fn large(idx: u64, count: u64) -> Vec<u8> {
+    [idx.to_le_bytes(), count.to_le_bytes()].concat()
+}
+
+// A record of that stated length and payload, with the right hash.
+fn record(len: u64, payload: &[u8]) -> Vec<u8> {
+    let hashed = [&len.to_le_bytes()[..], payload].concat();
+    [&hash(&hashed)[..], &hashed].concat()
+}
+
+#[test]
+fn numbers_and_words() {
+    for (at, refusal) in Refusal::ALL.into_iter().enumerate() {
+        assert_eq!(usize::from(refusal.number()), at + 1);
+        assert_eq!(Refusal::from_number(refusal.number()), Some(refusal));
+        assert_eq!(refusal.to_string(), refusal.word());
+    }
+    assert_eq!((Refusal::from_number(0), Refusal::from_number(21)), (None, None));
+    assert_eq!((Refusal::OffTotal.number(), Refusal::OffTotal.to_string().as_str()), (4, "off total"));
+}
+
+#[test]
+fn the_counters_one_to_six() {
+    let mut c = Counters::new(NextIdx::new(u64::MAX), 0);
+    assert_eq!(c.alloc_idx().unwrap_err().number(), 1);
+    assert_eq!(c.next_idx().get(), u64::MAX);
+    assert_eq!(counters(1).get(Idx::new(2)).unwrap_err().number(), 2);
+    assert_eq!(refused(&[change(2, 0, 1)], 1), 2);
+    assert_eq!(refused(&[change(0, 2, 3), change(0, 2, 4)], 1), 3);
+    assert_eq!(refused(&[change(0, 2, 0), change(1, 1, 0)], 1), 4);
+    assert_eq!(refused(&[change(0, 3, 4)], 1), 5);
+    assert_eq!(refused(&[change(1, 0, 2)], 1), 6);
+}
+
+#[test]
+fn snapshots_six_to_eleven() {
+    let empty = [0; 8];
+    assert_eq!(read(1, 1, &empty, &large(0, 257), 0), 6);
+    assert_eq!(read(0, 0, &empty, &[], 0), 7);
+    assert_eq!(Counters::deserialize_trusted(&[], 0).unwrap_err().number(), 8);
+    assert_eq!(Counters::deserialize_trusted(&[1; 16], 0).unwrap_err().number(), 8);
+    assert_eq!(read(1, 0, &[0; 9], &[], 0), 9);
+    assert_eq!(read(1, 1, &empty, &[0; 15], 1), 10);
+    assert_eq!(read(1, 1, &empty, &large(0, 256), 1), 10);
+    assert_eq!(read(1, 0, &empty, &large(0, 257), 1), 11);
+}
+
+#[test]
+fn the_nursery_twelve_to_fifteen() {
+    let mut n = CellNursery::new(1, 2);
+    n.apply_commit(&insert(1, vec![1])).unwrap();
+    let before = n.clone().into_parts();
+    assert_eq!(n.apply_commit(&insert(1, vec![])).unwrap_err().number(), 12);
+    assert_eq!(n.apply_commit(&insert(2, vec![])).unwrap_err().number(), 13);
+    assert_eq!(n.apply_commit(&insert(2, vec![0; 65_536])).unwrap_err().number(), 14);
+    assert_eq!(n.drain_promotable_into(100, &mut [0; 42]).unwrap_err().number(), 15);
+    assert_eq!(n.snapshot_entries_into(&mut [0; 46]).unwrap_err().number(), 15);
+    assert_eq!(n.into_parts(), before);
+    assert_eq!(counters(1).serialize_into(&mut [0; 166]).unwrap_err().number(), 15);
+    let mut out = [7; 55];
+    assert_eq!(encode_items(0, &DeltaItems::borrowed(0, 0, &[]), &mut out).unwrap_err().number(), 15);
+    assert_eq!(out, [7; 55]);
+    assert_eq!(encode_record(0, &insert(2, vec![0; 65_536])).unwrap_err().number(), 14);
+}
+
+#[test]
+fn records_sixteen_to_nineteen() {
+    let number = |bytes: &[u8]| decode_record(bytes).unwrap_err().number();
+    assert_eq!(number(&[0; 39]), 16);
+    assert_eq!(number(&record(17, &[0; 16])), 16);
+    assert_eq!(number(&record(u64::MAX - 7, &[])), 17);
+    let mut wrong = record(16, &[0; 16]);
+    wrong[0] ^= 1;
+    assert_eq!(number(&wrong), 18);
+    assert_eq!(number(&record(15, &[0; 15])), 19);
+    assert_eq!(number(&record(16, &[0, 0, 0, 0, 0, 0, 0, 0, 1, 0, 0, 0, 0, 0, 0, 0])), 19);
+}
+
+#[test]
+fn broken_tables() {
+    let (state, mut counts) = counters(2).into_parts();
+    assert!(Counters::from_parts(state, counts.clone()).is_ok());
+    counts[3] = 1;
+    assert_eq!(raw::get(&state, &counts, Idx::new(0)), Err(Refusal::Broken));
+    assert_eq!(raw::serialized_len(&state, &counts), Err(Refusal::Broken));
+    assert_eq!(raw::serialize(&state, &counts, &mut [0; 999]), Err(Refusal::Broken));
+    let mut changed = state;
+    assert_eq!(raw::apply_batch(&mut changed, &mut counts, &[1, 0, 2]), Err(Refusal::Broken));
+    assert_eq!(raw::shrink_if_needed(&mut changed, &counts, 0), Err(Refusal::Broken));
+    assert_eq!(changed, state);
+    assert_eq!(Counters::from_parts(state, counts).unwrap_err(), Refusal::Broken);
+
+    let mut n = CellNursery::new(2, 2);
+    n.apply_commit(&insert(1, vec![1])).unwrap();
+    let parts = n.into_parts();
+    let breaks: [fn(&mut NurseryParts); 4] =
+        [|p| p.nursery[2] = 0, |p| p.entries[8] = 1, |p| p.waiting[9] = 1, |p| p.cells[1] = 1];
+    for breaks in breaks {
+        let mut broken = parts.clone();
+        breaks(&mut broken);
+        assert_eq!(CellNursery::from_parts(broken).unwrap_err(), Refusal::Broken);
+    }
+    let NurseryParts { nursery, mut entries, cells, .. } = parts;
+    entries[8] = 1;
+    assert_eq!(raw::get_idx(&nursery, &entries, &HashBytes([1; 32])), Err(Refusal::Broken));
+    assert_eq!(raw::get_data(&nursery, &entries, &cells, &HashBytes([1; 32])), Err(Refusal::Broken));
+    assert_eq!(raw::snapshot_entries(&nursery, &entries, &cells, &mut [0; 99]), Err(Refusal::Broken));
+}
+
+#[test]
+fn what_is_no_batch_and_no_delta() {
+    let (mut state, mut counts) = counters(2).into_parts();
+    assert_eq!(raw::apply_batch(&mut state, &mut counts, &[1, 0]), Err(Refusal::Broken));
+    let mut n = CellNursery::new(2, 2);
+    for wide in [false, true] {
+        let short = DeltaItems { wide, inserts: 1, removes: 0, bytes: Cow::Borrowed(&[0; 45]) };
+        assert_eq!(n.apply_items(&short), Err(Refusal::Broken));
+        assert_eq!(short.to_delta(), Err(Refusal::Broken));
+    }
+}
+
+#[test]
+fn records_of_another_length_are_broken() {
+    for len in [0, 2, 12, 14] {
+        let (mut s, mut t, mut n, mut c) = (vec![0; len], [0; 8], vec![0; len], [0; 8]);
+        let broken = Some(Refusal::Broken);
+        assert_eq!(raw::new(NextIdx::new(0), &mut s, &mut t).err(), broken);
+        assert_eq!(raw::alloc_idx(&mut s).err(), broken);
+        assert_eq!(raw::get(&s, &t, Idx::new(0)).err(), broken);
+        assert_eq!(raw::apply_batch(&mut s, &mut t, &[]).err(), broken);
+        assert_eq!(raw::shrink_if_needed(&mut s, &t, 0).err(), broken);
+        assert_eq!(raw::serialized_len(&s, &t).err(), broken);
+        assert_eq!(raw::serialize(&s, &t, &mut [0; 200]).err(), broken);
+        assert_eq!(raw::deserialize_trusted(&counters(1).serialize(), &mut s, &mut t).err(), broken);
+        let (mut e, mut w) = ([0; 8], [0; 5]);
+        let hash = HashBytes([0; 32]);
+        assert_eq!(raw::nursery_new(&mut n, &mut e, &mut w, &mut c).err(), broken);
+        assert_eq!(raw::apply_commit(&mut n, &mut e, &mut w, &mut c, &DeltaItems::borrowed(0, 0, &[])).err(), broken);
+        assert_eq!(raw::drain_promotable(&mut n, &e, &mut w, &c, 100, &mut []).err(), broken);
+        assert_eq!(raw::get_idx(&n, &e, &hash).err(), broken);
+        assert_eq!(raw::get_data(&n, &e, &c, &hash).err(), broken);
+        assert_eq!(raw::snapshot_entries(&n, &e, &c, &mut []).err(), broken);
+        assert_eq!(raw::read_journal(&[], &mut n, &mut e, &mut w, &mut c).refusal, broken);
+        assert!(s == vec![0; len] && n == vec![0; len]);
+    }
+}
+
+#[test]
+fn values_beside_a_refusal_are_zeros() {
+    let (state, counts) = counters(1).into_parts();
+    let mut count = [9];
+    // SAFETY: slices and an array.
+    let answer = unsafe { sys::selvaigo_get(state.as_ptr(), state.len(), counts.as_ptr(), counts.len(), 2, &mut count) };
+    assert_eq!((answer, count), (2, [0]));
+    let (mut figures, mut hash) = ([9; 8], [9; 32]);
+    // SAFETY: a slice and arrays.
+    let answer = unsafe { sys::selvaigo_decode_record([0; 39].as_ptr(), 39, &mut figures, &mut hash) };
+    assert_eq!((answer, figures, hash), (16, [0; 8], [0; 32]));
+}
+
+#[test]
+#[should_panic(expected = "more room than a slice can have")]
+fn room_is_counted_with_checks() {
+    let _ = CellNursery::new(usize::MAX / 4, 0);
+}
