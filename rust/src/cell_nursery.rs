@@ -327,10 +327,10 @@ impl CellNursery {
     /// Hands out the waiting cells that are due at a round, by born round, then arrival; they stay as entries and wait no longer.
     pub fn drain_promotable(&mut self, round: u32, mut f: impl FnMut(HashBytes, Idx, &[u8])) {
         let due = self.due(round);
-        let mut out = vec![0; 42 * due + self.cell_bytes().min(65_535 * due)];
+        let mut out = vec![0; 42 * due + self.cell_bytes().min(due.saturating_mul(65_535))];
         let len = self.drain_promotable_into(round, &mut out).unwrap_or_else(|_| {
             // Tables that came by `from_parts` may name one hash in many waiting rows.
-            out = vec![0; (42 + 65_535) * due];
+            out = vec![0; due.saturating_mul(42 + 65_535)];
             self.drain_promotable_into(round, &mut out).expect("an output for the longest cells")
         });
         PromotedCell::all(&out[..len]).for_each(|cell| f(cell.hash, cell.idx, cell.data));

@@ -82,12 +82,11 @@ impl Refusal {
         self as u8
     }
 
-    // What an answer means. A number that no call gives is told apart from none: what gave it isn't the port.
+    // What an answer means. The port gives no number above 20: another library was linked.
     pub(crate) fn of(answer: u8) -> Result<(), Refusal> {
-        match (answer, Refusal::from_number(answer)) {
-            (0, _) => Ok(()),
-            (_, Some(refusal)) => Err(refusal),
-            _ => panic!("the linked library gave the answer {answer}, which isn't the port's"),
+        match answer {
+            0 => Ok(()),
+            _ => Err(Refusal::from_number(answer).unwrap_or_else(|| panic!("{answer} is no answer of the port's"))),
         }
     }
 }

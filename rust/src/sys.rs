@@ -4,7 +4,8 @@
 //!
 //! Of every call: a pointer and the length behind it are those of a slice, and not null for an empty one; a pointer to an array is
 //! valid for that array; what is written overlaps nothing else that the call is given. The calls named `.._held` ask besides that
-//! record and tables hold a state of docs/LAYOUT.md, which they do where nothing but these calls has written them.
+//! the record has its length and that record and tables hold a state of docs/LAYOUT.md, which they do where nothing but these calls has
+//! written them.
 
 /// Words in the state record of the counters.
 pub const STATE: usize = 13;
