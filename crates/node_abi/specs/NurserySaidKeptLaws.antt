@@ -95,7 +95,7 @@ abbrev pub Held : List ℕ → List ℕ → List ℕ → List ℕ → Type 0
 Held w es ws cs = (length w ≡ 3) × (holds (nurseryOf w) es ws cs ≡ true)
 
 -- a record's words hold what it holds
-words-held : (r : Nursery) (es ws cs : List ℕ) → holds r es ws cs ≡ true → Held (nurseryWords r) es ws cs
+pub words-held : (r : Nursery) (es ws cs : List ℕ) → holds r es ws cs ≡ true → Held (nurseryWords r) es ws cs
 unfolding holds
 words-held r es ws cs h = (length-nursery-words r, h)
 
