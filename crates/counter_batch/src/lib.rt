@@ -55,7 +55,7 @@ pub fn apply_batch_held(c: Counters, t: &mut [u64], b: &[u64]) -> Applied
     }
     Applied {
         answer: Answer::Taken,
-        counters: counter_steps::apply_kept(c, t, b),
+        counters: counter_merge::apply_kept(c, t, b),
     }
 }
 
