@@ -39,7 +39,7 @@ fn sorted_repeated(s: &mut [u64], b: &[u64]) -> bool
 }
 
 // Fewer transitions than these are compared pair by pair in less time than it takes to sort them.
-const FEW: usize = 48;
+const FEW: usize = 128;
 
 // 3: two kept transitions name one index. A batch of some size is sorted, where there is room behind the n rows of the table.
 pub fn any_repeated(t: &mut [u64], n: usize, b: &[u64]) -> bool

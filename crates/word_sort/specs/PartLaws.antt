@@ -36,24 +36,24 @@ short (x ∷ y ∷ ys) h = absurd (omega arith)
 pub sorted-short : (t v : List ℕ) (n : ℕ) → length t ≡ n + n → n < 2 → v ≡ paste t n (replicate n 0) n → v ≡ sorted (take n t) ++ zeros n
 sorted-short t v n h k e = zeroed n t v h e ∙ ap (λ (l : List ℕ). l ++ zeros n) (sym (short (take n t) (omega (arith, length-take-le n t (omega arith)))))
 
+-- the second half is in order, behind the first
+pub record Behind (t : List ℕ) (h n : ℕ) (s : List ℕ) : Type 0 where
+  pub size : length s ≡ n + n
+  pub front : take n s ≡ take h t ++ sorted (right t h n)
+
+-- and the first is copied behind both
+pub record Moved (t : List ℕ) (h n : ℕ) (s : List ℕ) : Type 0 where
+  pub size : length s ≡ n + n
+  pub front : take n s ≡ take h t ++ sorted (right t h n)
+  pub copy : left s h n ≡ take h t
+
+-- and sorted there
+pub record Ready (t : List ℕ) (h n : ℕ) (s : List ℕ) : Type 0 where
+  pub size : length s ≡ n + n
+  pub first : left s h n ≡ sorted (take h t)
+  pub second : right s h n ≡ sorted (right t h n)
+
 module _ (t : List ℕ) (h n : ℕ) (long : length t ≡ n + n) (half : h + h ≤ n) where
-  -- the second half is in order, behind the first
-  pub record Behind (s : List ℕ) : Type 0 where
-    pub size : length s ≡ n + n
-    pub front : take n s ≡ take h t ++ sorted (right t h n)
-
-  -- and the first is copied behind both
-  pub record Moved (s : List ℕ) : Type 0 where
-    pub size : length s ≡ n + n
-    pub front : take n s ≡ take h t ++ sorted (right t h n)
-    pub copy : left s h n ≡ take h t
-
-  -- and sorted there
-  pub record Ready (s : List ℕ) : Type 0 where
-    pub size : length s ≡ n + n
-    pub first : left s h n ≡ sorted (take h t)
-    pub second : right s h n ≡ sorted (right t h n)
-
   length-first : length (take h t) ≡ h
   length-first = length-take-le h t (omega arith)
 
@@ -64,7 +64,7 @@ module _ (t : List ℕ) (h n : ℕ) (long : length t ≡ n + n) (half : h + h �
     pub length-lent : length (take k (drop h t)) ≡ (n - h) + (n - h)
     length-lent = length-part t h k (omega arith) ∙ lent
 
-    pub behind : (u : List ℕ) → u ≡ sorted (take (n - h) (take k (drop h t))) ++ zeros (n - h) → Behind (back h k t u)
+    pub behind : (u : List ℕ) → u ≡ sorted (take (n - h) (take k (drop h t))) ++ zeros (n - h) → Behind t h n (back h k t u)
     behind u e =
         let f : h + (n - h) ≡ n = omega arith in
         let q : take (n - h) (take k (drop h t)) ≡ right t h n = take-take (n - h) k (drop h t) (omega arith) in
@@ -83,7 +83,7 @@ module _ (t : List ℕ) (h n : ℕ) (long : length t ≡ n + n) (half : h + h �
           front = ap (λ (l : List ℕ). take n l) w ∙ take-at (take h t ++ sorted (right t h n)) (z ++ r) n a;
         }
 
-  pub moved : (s u : List ℕ) → Behind s → u ≡ paste s n (drop 0 s) h → Moved u
+  pub moved : (s u : List ℕ) → Behind t h n s → u ≡ paste s n (drop 0 s) h → Moved t h n u
   moved s u b e =
       let i : n ≤ length s = omega (arith, b .size) in
       let j : h ≤ length s = omega (arith, b .size) in
@@ -95,11 +95,11 @@ module _ (t : List ℕ) (h n : ℕ) (long : length t ≡ n + n) (half : h + h �
         copy = ap (λ (l : List ℕ). take h (drop n l)) e ∙ part-paste s n s h i j ∙ k;
       }
 
-  module _ (s : List ℕ) (m : Moved s) (k : ℕ) (lent : k ≡ h + h) where
+  module _ (s : List ℕ) (m : Moved t h n s) (k : ℕ) (lent : k ≡ h + h) where
     pub length-lent-first : length (take k (drop n s)) ≡ h + h
     length-lent-first = length-part s n k (omega (arith, m .size)) ∙ lent
 
-    pub ready : (u : List ℕ) → u ≡ sorted (take h (take k (drop n s))) ++ zeros h → Ready (back n k s u)
+    pub ready : (u : List ℕ) → u ≡ sorted (take h (take k (drop n s))) ++ zeros h → Ready t h n (back n k s u)
     ready u e =
         let q : take h (take k (drop n s)) ≡ take h t = take-take h k (drop n s) (omega arith) ∙ m .copy in
         let d : u ≡ sorted (take h t) ++ zeros h = e ∙ ap (λ (l : List ℕ). sorted l ++ zeros h) q in
@@ -127,7 +127,7 @@ module _ (t : List ℕ) (h n : ℕ) (long : length t ≡ n + n) (half : h + h �
           second = ap (λ (l : List ℕ). take (n - h) (drop h l)) w ∙ v;
         }
 
-  pub halves : (s : List ℕ) → Ready s → Halves s h n
+  pub halves : (s : List ℕ) → Ready t h n s → Halves s h n
   halves s r =
       record {
         half = omega arith;
@@ -136,13 +136,13 @@ module _ (t : List ℕ) (h n : ℕ) (long : length t ≡ n + n) (half : h + h �
         rightSorted = rw (r .second) (sorted-sorts (right t h n));
       }
 
-  length-both : (s : List ℕ) → Ready s → length (sorted (left s h n ++ right s h n)) ≡ n
+  length-both : (s : List ℕ) → Ready t h n s → length (sorted (left s h n ++ right s h n)) ≡ n
   length-both s r =
       length-sorted (left s h n ++ right s h n)
       ∙ length-append (left s h n) (right s h n)
       ∙ omega (arith, length-part s n h (omega (arith, r .size)), length-part s h (n - h) (omega (arith, r .size)))
 
-  pub length-merged : (s u : List ℕ) → Ready s → u ≡ sorted (left s h n ++ right s h n) ++ drop n s → length u ≡ n + n
+  pub length-merged : (s u : List ℕ) → Ready t h n s → u ≡ sorted (left s h n ++ right s h n) ++ drop n s → length u ≡ n + n
   length-merged s u r e =
       ap (λ (l : List ℕ). length l) e
       ∙ length-append (sorted (left s h n ++ right s h n)) (drop n s)
@@ -155,7 +155,7 @@ module _ (t : List ℕ) (h n : ℕ) (long : length t ≡ n + n) (half : h + h �
       sym (sorted-order (order-trans (Permᴰ·append-right (right t h n) (sorted-reorders (take h t))) (Permᴰ·append-left (sorted (take h t)) (sorted-reorders (right t h n)))))
       ∙ ap (λ (l : List ℕ). sorted l) (sym (take-add h (n - h) t) ∙ ap (λ (i : ℕ). take i t) f)
 
-  pub joined : (s u v : List ℕ) → Ready s → u ≡ sorted (left s h n ++ right s h n) ++ drop n s → v ≡ paste u n (replicate n 0) n → v ≡ sorted (take n t) ++ zeros n
+  pub joined : (s u v : List ℕ) → Ready t h n s → u ≡ sorted (left s h n ++ right s h n) ++ drop n s → v ≡ paste u n (replicate n 0) n → v ≡ sorted (take n t) ++ zeros n
   joined s u v r e f =
       zeroed n u v (length-merged s u r e) f
       ∙ ap (λ (l : List ℕ). l ++ zeros n)

@@ -3,7 +3,7 @@
 use native.Mathlib.Omega.{arith}
 use borrow.Author.Needs.{needs}
 use Prim.Native.Nat.{ℕ, _+_, _-_, _/_, _<_}
-use Rattle.word_sort.specs.PartLaws.{back, behind, moved, ready, halves, joined, length-lent, length-lent-first, length-merged, sorted-short}
+use Rattle.word_sort.specs.PartLaws.{Behind, Moved, Ready, back, behind, moved, ready, halves, joined, length-lent, length-lent-first, length-merged, sorted-short}
 use borrow.Fn.Kinds.{In}
 use borrow.Fn.PlainCycle.{Measures, is, falls, and}
 use Rattle.word_sort.proofs.sort.Reads as sort
@@ -28,6 +28,33 @@ sort-below t = and 1 sort-kinds.ps (falls 1 sort-kinds.ps _<_ μ-sort t) sort.Pr
 abbrev given : ℕ → sort-lts.Claims
 given t =
     (fill-reads.Asked, fill-reads.Learnt, sort-below t, sort.Post, move-up-reads.Asked, move-up-reads.Learnt, merge-reads.Asked, merge-reads.Learnt)
+
+-- after each call: what the words are, of those at entry
+second-sorted : (t : ℕ) (c : sort-lts.After-sort (given t) (sort-at t) sort.Post) →
+    let a = c .before .before .before .before .args in
+    Behind (a .s .now) (a .n / 2) (a .n) (back (a .n / 2) (a .n + a .n - a .n / 2 - a .n / 2) (a .s .now) (c .sort .last .0))
+second-sorted t c =
+    let b = c .before .before .before .before in
+    let n = b .args .n in
+    behind (b .args .s .now) (n / 2) n (b .pre .1) (omega arith) (n + n - n / 2 - n / 2) (omega arith) (c .sort .last .0) (c .sort .ensures)
+
+first-moved : (t : ℕ) (c : sort-lts.After-move-up (given t) (sort-at t) sort.Post) →
+    let a = c .before .before .before .before .before .before .before .before .args in
+    Moved (a .s .now) (a .n / 2) (a .n) (c .move-up .last .0)
+first-moved t c =
+    let b = c .before .before .before .before .before .before .before .before in
+    let n = b .args .n in
+    moved (b .args .s .now) (n / 2) n (b .pre .1) (omega arith) (back (n / 2) (n + n - n / 2 - n / 2) (b .args .s .now) (c .before .before .before .before .sort .last .0))
+    (c .move-up .last .0) (second-sorted t (c .before .before .before .before)) (c .move-up .ensures)
+
+both-sorted : (t : ℕ) (c : sort-lts.After-sort2 (given t) (sort-at t) sort.Post) →
+    let a = c .before .before .before .before .before .before .before .before .before .before .before .before .args in
+    Ready (a .s .now) (a .n / 2) (a .n) (back (a .n) (a .n + a .n / 2 + a .n / 2 - a .n) (c .before .before .before .before .move-up .last .0) (c .sort2 .last .0))
+both-sorted t c =
+    let b = c .before .before .before .before .before .before .before .before .before .before .before .before in
+    let n = b .args .n in
+    ready (b .args .s .now) (n / 2) n (b .pre .1) (omega arith) (c .before .before .before .before .move-up .last .0) (first-moved t (c .before .before .before .before)) (n + n / 2 + n / 2 - n) (omega arith)
+    (c .sort2 .last .0) (c .sort2 .ensures)
 
 sort-fill-requires : (t : ℕ) → sort-lts.Need-fill-requires (given t) (sort-at t) sort.Post
 sort-fill-requires t c κs = omega arith
@@ -65,19 +92,11 @@ sort-sub-sort-3 t c = omega arith
 sort-sort-requires : (t : ℕ) → sort-lts.Need-sort-requires (given t) (sort-at t) sort.Post
 sort-sort-requires t c κs =
     let b = c .before .before .before in
-    let a = b .args in
-    let h = a .n / 2 in
-    (omega arith, length-lent (a .s .now) h (a .n) (b .pre .1) (omega arith) (a .n + a .n - h - h) (omega arith))
+    let n = b .args .n in
+    (omega arith, length-lent (b .args .s .now) (n / 2) n (b .pre .1) (omega arith) (n + n - n / 2 - n / 2) (omega arith))
 
 sort-move-up-requires : (t : ℕ) → sort-lts.Need-move-up-requires (given t) (sort-at t) sort.Post
-sort-move-up-requires t c κs =
-    let b = c .before .before .before .before .before .before .before in
-    let a = b .args in
-    let h = a .n / 2 in
-    let x = c .before .before .before .sort in
-    let s = back h (a .n + a .n - h - h) (a .s .now) (x .last .0) in
-    let p = behind (a .s .now) h (a .n) (b .pre .1) (omega arith) (a .n + a .n - h - h) (omega arith) (x .last .0) (x .ensures) in
-    (omega arith, omega (arith, p .size))
+sort-move-up-requires t c κs = (omega arith, omega (arith, second-sorted t (c .before .before .before) .size))
 
 sort-add-sort-2 : (t : ℕ) → sort-lts.Need-add-sort-2 (given t) (sort-at t) sort.Post
 sort-add-sort-2 t c = omega arith
@@ -100,45 +119,26 @@ sort-part-sort-end-2 t c = search needs
 sort-sort-requires-2 : (t : ℕ) → sort-lts.Need-sort-requires-2 (given t) (sort-at t) sort.Post
 sort-sort-requires-2 t c κs =
     let b = c .before .before .before .before .before .before .before .before .before .before .before in
-    let a = b .args in
-    let h = a .n / 2 in
-    let x = c .before .before .before .before .before .before .before .sort in
-    let s = back h (a .n + a .n - h - h) (a .s .now) (x .last .0) in
-    let p = behind (a .s .now) h (a .n) (b .pre .1) (omega arith) (a .n + a .n - h - h) (omega arith) (x .last .0) (x .ensures) in
-    let y = c .before .before .before .move-up in
-    let q = moved (a .s .now) h (a .n) (b .pre .1) (omega arith) s (y .last .0) p (y .ensures) in
-    (omega arith, length-lent-first (a .s .now) h (a .n) (b .pre .1) (omega arith) (y .last .0) q (a .n + h + h - a .n) (omega arith))
+    let n = b .args .n in
+    let y = c .before .before .before in
+    (omega arith, length-lent-first (b .args .s .now) (n / 2) n (b .pre .1) (omega arith) (y .move-up .last .0) (first-moved t y) (n + n / 2 + n / 2 - n) (omega arith))
 
 sort-merge-requires : (t : ℕ) → sort-lts.Need-merge-requires (given t) (sort-at t) sort.Post
 sort-merge-requires t c κs =
     let b = c .before .before .before .before .before .before .before .before .before .before .before .before .before .before .before in
-    let a = b .args in
-    let h = a .n / 2 in
-    let x = c .before .before .before .before .before .before .before .before .before .before .before .sort in
-    let s = back h (a .n + a .n - h - h) (a .s .now) (x .last .0) in
-    let p = behind (a .s .now) h (a .n) (b .pre .1) (omega arith) (a .n + a .n - h - h) (omega arith) (x .last .0) (x .ensures) in
-    let y = c .before .before .before .before .before .before .before .move-up in
-    let q = moved (a .s .now) h (a .n) (b .pre .1) (omega arith) s (y .last .0) p (y .ensures) in
-    let z = c .before .before .before .sort2 in
-    let k = a .n + h + h - a .n in
-    let r = ready (a .s .now) h (a .n) (b .pre .1) (omega arith) (y .last .0) q k (omega arith) (z .last .0) (z .ensures) in
-    halves (a .s .now) h (a .n) (b .pre .1) (omega arith) (back (a .n) k (y .last .0) (z .last .0)) r
+    let n = b .args .n in
+    let z = c .before .before .before in
+    let s = back n (n + n / 2 + n / 2 - n) (z .before .before .before .before .move-up .last .0) (z .sort2 .last .0) in
+    halves (b .args .s .now) (n / 2) n (b .pre .1) (omega arith) s (both-sorted t z)
 
 sort-fill-requires-2 : (t : ℕ) → sort-lts.Need-fill-requires-2 (given t) (sort-at t) sort.Post
 sort-fill-requires-2 t c κs =
     let b = c .before .before .before .before .before .before .before .before .before .before .before .before .before .before .before .before .before .before .before in
-    let a = b .args in
-    let h = a .n / 2 in
-    let x = c .before .before .before .before .before .before .before .before .before .before .before .before .before .before .before .sort in
-    let s = back h (a .n + a .n - h - h) (a .s .now) (x .last .0) in
-    let p = behind (a .s .now) h (a .n) (b .pre .1) (omega arith) (a .n + a .n - h - h) (omega arith) (x .last .0) (x .ensures) in
-    let y = c .before .before .before .before .before .before .before .before .before .before .before .move-up in
-    let q = moved (a .s .now) h (a .n) (b .pre .1) (omega arith) s (y .last .0) p (y .ensures) in
-    let z = c .before .before .before .before .before .before .before .sort2 in
-    let k = a .n + h + h - a .n in
-    let r = ready (a .s .now) h (a .n) (b .pre .1) (omega arith) (y .last .0) q k (omega arith) (z .last .0) (z .ensures) in
+    let n = b .args .n in
+    let z = c .before .before .before .before .before .before .before in
+    let s = back n (n + n / 2 + n / 2 - n) (z .before .before .before .before .move-up .last .0) (z .sort2 .last .0) in
     let w = c .before .before .before .merge in
-    omega (arith, length-merged (a .s .now) h (a .n) (b .pre .1) (omega arith) (back (a .n) k (y .last .0) (z .last .0)) (w .last .0) r (w .ensures))
+    omega (arith, length-merged (b .args .s .now) (n / 2) n (b .pre .1) (omega arith) s (w .last .0) (both-sorted t z) (w .ensures))
 
 sort-same-length-2 : (t : ℕ) → sort-lts.Need-same-length-2 (given t) (sort-at t) sort.Post
 sort-same-length-2 t c = omega arith
@@ -146,18 +146,12 @@ sort-same-length-2 t c = omega arith
 sort-returns-2 : (t : ℕ) → sort-lts.Need-returns-2 (given t) (sort-at t) sort.Post
 sort-returns-2 t c =
     let b = c .before .before .before .before .before .before .before .before .before .before .before .before .before .before .before .before .before .before .before .before .before .before in
-    let a = b .args in
-    let h = a .n / 2 in
-    let x = c .before .before .before .before .before .before .before .before .before .before .before .before .before .before .before .before .before .before .sort in
-    let s = back h (a .n + a .n - h - h) (a .s .now) (x .last .0) in
-    let p = behind (a .s .now) h (a .n) (b .pre .1) (omega arith) (a .n + a .n - h - h) (omega arith) (x .last .0) (x .ensures) in
-    let y = c .before .before .before .before .before .before .before .before .before .before .before .before .before .before .move-up in
-    let q = moved (a .s .now) h (a .n) (b .pre .1) (omega arith) s (y .last .0) p (y .ensures) in
-    let z = c .before .before .before .before .before .before .before .before .before .before .sort2 in
-    let k = a .n + h + h - a .n in
-    let r = ready (a .s .now) h (a .n) (b .pre .1) (omega arith) (y .last .0) q k (omega arith) (z .last .0) (z .ensures) in
+    let n = b .args .n in
+    let z = c .before .before .before .before .before .before .before .before .before .before in
+    let s = back n (n + n / 2 + n / 2 - n) (z .before .before .before .before .move-up .last .0) (z .sort2 .last .0) in
     let w = c .before .before .before .before .before .before .merge in
-    joined (a .s .now) h (a .n) (b .pre .1) (omega arith) (back (a .n) k (y .last .0) (z .last .0)) (w .last .0) (c .before .before .fill2 .last .0) r (w .ensures) (c .before .before .fill2 .ensures)
+    let f = c .before .before .fill2 in
+    joined (b .args .s .now) (n / 2) n (b .pre .1) (omega arith) s (w .last .0) (f .last .0) (both-sorted t z) (w .ensures) (f .ensures)
 
 pub +sort-spec : {M : Type 1} → statement M
 +sort-spec = close μ-sort λ t. sort-lts.spec (given t)
