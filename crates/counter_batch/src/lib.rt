@@ -5,9 +5,14 @@ use counters::Applied;
 use counters::Counters;
 use counters::Kind;
 ghost use mathlib.Core.Path.{_≡_};
-ghost use mathlib.Core.Bool.{true};
+ghost use mathlib.Core.Bool.{true, false};
+ghost use Prim.Native.Nat.{_%_};
+ghost use lib.ListN.{length};
+ghost use Rattle.base.specs.Logic.{any, repeated};
 ghost use Rattle.base.specs.declared.Answer.the-variants.{Refused};
 ghost use Rattle.counters.specs.Layout as layout;
+ghost use Rattle.counters.specs.Batch.{kept, named, unallocated};
+ghost use Rattle.counters.specs.Steps.{transitions};
 ghost use Rattle.counters.specs.Calls.{changed, batchCall};
 
 // A refusal leaves the record as it is.
@@ -20,20 +25,12 @@ fn refused(c: Counters, r: Refusal) -> Applied
     }
 }
 
-// A batch on a table that holds a state: 20 for ragged words, then 2, 3, 5, 4, 6, each over the whole batch, before the first write.
-pub fn apply_batch_held(c: Counters, t: &mut [u64], b: &[u64]) -> Applied
-    requires { ⌜ layout.holds c (now t) ≡ true ⌝ }
+// A whole batch that names allocated indices, each once, on a table that holds a state: 5, 4, 6, each over the whole batch, before the first
+// write.
+fn apply_once(c: Counters, t: &mut [u64], b: &[u64]) -> Applied
+    requires { ⌜ (layout.holds c (now t) ≡ true) × (length (now b) % 3 ≡ 0) × (any (unallocated (c .«next_idx» .0)) (kept (transitions (now b))) ≡ false) × (repeated (named (kept (transitions (now b)))) ≡ false) ⌝ }
     ensures { λ r. ⌜ changed r (now (t .exit)) ≡ batchCall c (now (t .entry)) (now (b .entry)) ⌝ }
 {
-    if b.len() % 3 != 0 {
-        return refused(c, Refusal::Broken);
-    }
-    if counter_steps::any_unallocated(b, c.next_idx.0) {
-        return refused(c, Refusal::Unallocated);
-    }
-    if counter_steps::any_repeated(b) {
-        return refused(c, Refusal::Repeated);
-    }
     let n = c.stored;
     if counter_steps::any_false_old(t, n, b) {
         return refused(c, Refusal::FalseOld);
@@ -57,6 +54,25 @@ pub fn apply_batch_held(c: Counters, t: &mut [u64], b: &[u64]) -> Applied
         answer: Answer::Taken,
         counters: counter_merge::apply_kept(c, t, b),
     }
+}
+
+// A batch on a table that holds a state: 20 for ragged words, then 2, 3, 5, 4, 6, each over the whole batch, before the first write. The
+// words behind the rows may serve 3 to sort in, and are 0 again.
+pub fn apply_batch_held(c: Counters, t: &mut [u64], b: &[u64]) -> Applied
+    requires { ⌜ layout.holds c (now t) ≡ true ⌝ }
+    ensures { λ r. ⌜ changed r (now (t .exit)) ≡ batchCall c (now (t .entry)) (now (b .entry)) ⌝ }
+{
+    if b.len() % 3 != 0 {
+        return refused(c, Refusal::Broken);
+    }
+    if counter_steps::any_unallocated(b, c.next_idx.0) {
+        return refused(c, Refusal::Unallocated);
+    }
+    let n = c.stored;
+    if counter_repeats::any_repeated(t, n, b) {
+        return refused(c, Refusal::Repeated);
+    }
+    apply_once(c, t, b)
 }
 
 // A batch: taken whole or refused whole, and a refusal changes nothing.
