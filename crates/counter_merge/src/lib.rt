@@ -26,7 +26,7 @@ fn replace(t: &mut [u64], n: usize, idx: u64, new: u64) -> bool
     requires { ⌜ InOrder n (now t) ⌝ }
     ensures { λ r. ⌜ (r ≡ elem idx (keys firstWord 2 n (now (t .entry)))) × (now (t .exit) ≡ rows-table.tableOf countRow (length (now (t .entry))) (replaced idx new (rowsOf countRow n (now (t .entry))))) ⌝ }
 {
-    let k = rows::find(t, 2, n, idx);
+    let k = row_search::find(t, 2, n, idx);
     if k < n {
         if t[k * 2] == idx {
             t[k * 2 + 1] = new;
