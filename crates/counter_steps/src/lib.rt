@@ -1,8 +1,6 @@
 // The steps of a batch, each over the whole batch: lent words, three a transition (index, old, new).
 use counters::CounterMaintenance;
-use counters::Counters;
 use counters::Kind;
-use counters::NextIdx;
 ghost use mathlib.Core.Path.{_≡_};
 ghost use mathlib.Core.Bool.{_&&_, _||_};
 ghost use Prim.Native.Nat.{_+_, _-_, _*_, _/_, _^_, _≤_, _<_};
@@ -12,10 +10,9 @@ ghost use Rattle.base.specs.Logic.{pick, any, elem, keep, repeated, max64};
 ghost use Rattle.rows.specs.Table as rows-table;
 ghost use Rattle.rows.specs.Table.{rowsOf};
 ghost use Rattle.counters.specs.Maintenance.{grownSets, maintained};
-ghost use Rattle.counters.specs.Layout as layout;
-ghost use Rattle.counters.specs.Layout.{countRow, recordOf, stateOf};
-ghost use Rattle.counters.specs.Batch.{changes, kept, named, unallocated, falseOld, countsAfter, stateAfter};
-ghost use Rattle.counters.specs.Held.{InOrder, Judged};
+ghost use Rattle.counters.specs.Layout.{countRow};
+ghost use Rattle.counters.specs.Batch.{changes, kept, named, unallocated, falseOld, countsAfter};
+ghost use Rattle.counters.specs.Held.{InOrder};
 ghost use Rattle.counters.specs.Steps.{transition, transitionAt, transitions, ofKind, leavesRow, some, applyOne};
 
 // Whether a transition changes a count at an index that isn't allocated.
@@ -192,7 +189,7 @@ pub fn off_total(live: u64, births: u64, deaths: u64) -> bool
 }
 
 // Whether a transition is kept and leaves a row (many), or is kept and leaves none.
-fn is_due(many: bool, idx: u64, old: u64, new: u64) -> bool
+pub fn is_due(many: bool, idx: u64, old: u64, new: u64) -> bool
     ensures { λ r. ⌜ r ≡ (changes (transition idx old new) && leavesRow many (transition idx old new)) ⌝ }
 {
     if old == new {
@@ -217,7 +214,7 @@ fn apply_one(t: &mut [u64], n: usize, idx: u64, old: u64, new: u64, many: bool) 
 }
 
 // Applies the kept transitions that leave a row (many), or those that leave none. Returns how many rows there are then.
-fn apply_some(t: &mut [u64], n: usize, b: &[u64], many: bool) -> usize
+pub fn apply_some(t: &mut [u64], n: usize, b: &[u64], many: bool) -> usize
     requires { ⌜ InOrder n (now t) ⌝ }
     requires { ⌜ length (countsAfter (some many (transitions (now b))) (rowsOf countRow n (now t))) * 2 ≤ length (now t) ⌝ }
     ensures { λ r. ⌜ (r ≡ length (countsAfter (some many (transitions (now (b .entry)))) (rowsOf countRow n (now (t .entry))))) × (now (t .exit) ≡ rows-table.tableOf countRow (length (now (t .entry))) (countsAfter (some many (transitions (now (b .entry)))) (rowsOf countRow n (now (t .entry))))) ⌝ }
@@ -247,7 +244,7 @@ fn grown_sets(b: &[u64], removed: [u64; 8]) -> [u64; 8]
 }
 
 // Maintenance after the kept transitions.
-fn maintained_by(b: &[u64], m: CounterMaintenance) -> CounterMaintenance
+pub fn maintained_by(b: &[u64], m: CounterMaintenance) -> CounterMaintenance
     ensures { λ r. ⌜ r ≡ maintained (kept (transitions (now (b .entry)))) m ⌝ }
 {
     let removed = m.small_removed_since_shrink;
@@ -269,23 +266,4 @@ pub fn exceeds(t: &[u64], n: usize, rises: u64, falls: u64) -> bool
 {
     let room = (t.len() / 2) as u64;
     room < (n as u64) + rises - falls
-}
-
-// Applies the kept transitions of a batch that is judged good. Those that leave no row go first, so that no row lacks room.
-pub fn apply_kept(c: Counters, t: &mut [u64], b: &[u64]) -> Counters
-    requires { ⌜ Judged c (now t) (now b) ⌝ }
-    ensures { λ r. ⌜ (r ≡ recordOf (stateAfter (kept (transitions (now (b .entry)))) (stateOf c (now (t .entry))))) × (now (t .exit) ≡ layout.tableOf (length (now (t .entry))) (stateAfter (kept (transitions (now (b .entry)))) (stateOf c (now (t .entry))))) ⌝ }
-{
-    let n = c.stored;
-    let live = c.live_cells + tally(b, Kind::Birth) - tally(b, Kind::Death);
-    let maintenance = c.maintenance;
-    let m = maintained_by(b, maintenance);
-    let freed = apply_some(t, n, b, false);
-    let stored = apply_some(t, freed, b, true);
-    Counters {
-        next_idx: NextIdx(c.next_idx.0),
-        live_cells: live,
-        stored,
-        maintenance: m,
-    }
 }

@@ -1,13 +1,14 @@
--- `counter_steps::apply_kept`.
+-- `counter_merge::apply_kept`.
 -- Assumes nothing.
 use native.Mathlib.Omega.{arith}
 use borrow.Author.Needs.{needs}
 use Rattle.counters.specs.Batch.{kept}
 use Rattle.counters.specs.Steps.{transitions}
 use Rattle.counters.specs.JudgeLaws.{total-within}
-use Rattle.counters.specs.KeptLaws.{first-order, first-fits, second-order, second-fits, record-after, table-after}
-use Rattle.counter_steps.proofs.apply_kept.Statement.{statement}
-use Rattle.counter_steps.proofs.apply_kept.Tie as tie
+use Rattle.counters.specs.KeptLaws.{first-order, second-order, second-fits, record-after, table-after}
+use Rattle.counter_merge.specs.RoomLaws.{judged-stand}
+use Rattle.counter_merge.proofs.apply_kept.Statement.{statement}
+use Rattle.counter_merge.proofs.apply_kept.Tie as tie
 
 tally-requires : tie.Need-tally-requires
 tally-requires c κs = search needs
@@ -28,14 +29,14 @@ sub-live c =
 maintained-by-requires : tie.Need-maintained-by-requires
 maintained-by-requires c κs = search needs
 
-apply-some-requires : tie.Need-apply-some-requires
-apply-some-requires c κs =
+drop-rows-requires : tie.Need-drop-rows-requires
+drop-rows-requires c κs =
     let s = c .before .before .before .before .before .before .before .before in
-    (first-order (s .args .c) (s .args .t .now) (s .args .b .now) (s .pre), first-fits (s .args .c) (s .args .t .now) (s .args .b .now) (s .pre))
+    (first-order (s .args .c) (s .args .t .now) (s .args .b .now) (s .pre), judged-stand (s .args .c) (s .args .t .now) (s .args .b .now) (s .pre))
 
-apply-some-requires-2 : tie.Need-apply-some-requires-2
-apply-some-requires-2 c κs =
-    let f = c .before .before .before .apply-some in
+put-rows-requires : tie.Need-put-rows-requires
+put-rows-requires c κs =
+    let f = c .before .before .before .drop-rows in
     let s = c .before .before .before .before .before .before .before .before .before .before .before .before in (
       second-order (s .args .c) (s .args .t .now) (s .args .b .now) (s .pre) (f .result) _ (f .ensures .0) (f .ensures .1),
       second-fits (s .args .c) (s .args .t .now) (s .args .b .now) (s .pre) (f .result) _ (f .ensures .0) (f .ensures .1),
@@ -46,8 +47,8 @@ same-length c = search needs
 
 returns : tie.Need-returns
 returns c =
-    let g = c .before .before .apply-some2 in
-    let f = c .before .before .before .before .before .before .apply-some in
+    let g = c .before .before .put-rows in
+    let f = c .before .before .before .before .before .before .drop-rows in
     let m = c .before .before .before .before .before .before .before .before .maintained-by in
     let d = c .before .before .before .before .before .before .before .before .before .before .tally2 in
     let a = c .before .before .before .before .before .before .before .before .before .before .before .before .tally in
@@ -65,7 +66,7 @@ apply-kept-spec =
     tally-requires-2
     sub-live
     maintained-by-requires
-    apply-some-requires
-    apply-some-requires-2
+    drop-rows-requires
+    put-rows-requires
     same-length
     returns)

@@ -1,0 +1,13 @@
+-- `Passes`: what each pass over the table leaves. `Halves`: the table while rows that come wait at its end.
+-- `MarkLaws`: rows that go. `JoinLaws`, `PutLaws`, `AsideLaws`: rows that come. `WordLaws`, `TableLaws`, `MergeLaws`: the words of rows as they move.
+-- `RoomLaws`: a table with room to lay rows aside.
+pub mod Passes
+pub mod Halves
+pub mod MarkLaws
+pub mod JoinLaws
+pub mod WordLaws
+pub mod TableLaws
+pub mod PutLaws
+pub mod AsideLaws
+pub mod MergeLaws
+pub mod RoomLaws
