@@ -5,36 +5,23 @@ use mathlib.Core.Bool.{Bool, true, false}
 use mathlib.Core.List.{List, [], _∷_, _++_, append-nil}
 use Prim.Native.Nat.{ℕ, _+_, _*_, _-_, _≤_}
 use native.Mathlib.Omega.{arith}
-use lib.Dec.{leb}
 use lib.ListN.{length, take, drop, length-append, length-drop, take-append-drop, drop-of-length-le}
 use lib.Seq.{take-at, drop-at, take-all, length-take-le}
-use Rattle.base.specs.Logic.{pick, elem, fold}
+use Rattle.base.specs.Logic.{pick, elem, keep, fold}
+use Rattle.base.specs.ListLaws.{length-keep}
 use Rattle.rows.specs.Table.{rowsOf, tableOf}
 use Rattle.rows.specs.TableLaws.{length-rowsOf, rowsOf-table, table-rowsOf, length-table}
 use Rattle.rows.specs.Keys.{keys, firstWord}
-use Rattle.rows.specs.RowLaws.{length-put}
 use Rattle.counters.specs.declared.CounterTransition.{CounterTransition}
-use Rattle.counters.specs.Counts.{Entry, rowOf, setCount}
-use Rattle.counters.specs.CountLaws.{length-rowOf}
+use Rattle.counters.specs.Counts.{Entry, setCount}
 use Rattle.counters.specs.Layout.{countRow}
 use Rattle.counters.specs.Held.{InOrder}
 use Rattle.counters.specs.ApplyLaws.{in-order-table, in-order-ascends}
-use Rattle.counter_merge.specs.Passes.{replaced, lands, frontOne, fronts, backOne, backs}
+use Rattle.counter_merge.specs.Passes.{replaced, lands, isNew, frontOne, fronts, newRows, backOne, backs}
 use Rattle.counter_merge.specs.Halves.{Halves}
 use Rattle.counter_merge.specs.MarkLaws.{replaced-indices}
 use Rattle.counter_merge.specs.TableLaws.{Same, same-indices}
 use Rattle.counter_merge.specs.PutLaws.{front-indices, back-length, back-ascends}
-
-abbrev index : Entry → ℕ
-index e = e .idx
-
-set-length : (i m : ℕ) (ns : List Entry) → length (setCount i m ns) ≤ length ns + 1
-unfolding setCount
-set-length i m ns = omega (arith, length-put index i (rowOf i m) ns, length-rowOf i m, one (leb 2 m))
-  where
-    one : (b : Bool) → pick b 1 0 ≤ 1
-    one true = omega arith
-    one false = omega arith
 
 module _ (n at s : ℕ) (t : List ℕ) (ok : Halves n at s t) where
   abbrev ks : List ℕ
@@ -64,11 +51,11 @@ module _ (n at s : ℕ) (t : List ℕ) (ok : Halves n at s t) where
     back-part =
         rw (whole, drop-at y (drop at t) at (same .size ∙ front-length)) (take-all (length t - at) (drop at t) (omega (arith, back-size)))
 
-    pub back-room : at + (s + 1) * 2 ≤ length t
+    pub back-room : at + length (setCount i m ns) * 2 ≤ length t
         → InOrder s (take (length (y ++ drop at t) - at) (drop at (y ++ drop at t)))
         × (length (setCount i m (rowsOf countRow s (take (length (y ++ drop at t) - at) (drop at (y ++ drop at t))))) * 2
         ≤ length (take (length (y ++ drop at t) - at) (drop at (y ++ drop at t))))
-    back-room h = rw back-part (ok .back, omega (arith, set-length i m ns, length-rowsOf countRow s (drop at t), back-size))
+    back-room h = rw back-part (ok .back, omega (arith, back-size))
 
   module _ (x : CounterTransition) where
     abbrev i : ℕ
@@ -76,6 +63,10 @@ module _ (n at s : ℕ) (t : List ℕ) (ok : Halves n at s t) where
 
     abbrev m : ℕ
     m = x .«new_raw»
+
+    pub aside-is : lands x ≡ true → false ≡ elem i ks → backOne ks x ns ≡ setCount i m ns
+    unfolding backOne
+    aside-is l e = rw (l, ← e)
 
     pub put-found : lands x ≡ true → true ≡ elem i ks → (y : List ℕ) → y ≡ tableOf countRow (length (take at t)) (replaced i m es)
         → (s ≡ length (backOne ks x ns)) × (y ++ drop at t ≡ tableOf countRow at (frontOne x es) ++ tableOf countRow (length t - at) (backOne ks x ns))
@@ -118,7 +109,7 @@ module _ (n at s : ℕ) (t : List ℕ) (ok : Halves n at s t) where
         )
 
     -- what one leaves for the next
-    module _ (room : at + (s + 1) * 2 ≤ length t) (r : ℕ) (t′ : List ℕ) (number : r ≡ length (backOne ks x ns))
+    module _ (room : at + length (backOne ks x ns) * 2 ≤ length t) (r : ℕ) (t′ : List ℕ) (number : r ≡ length (backOne ks x ns))
         (words : t′ ≡ tableOf countRow at (frontOne x es) ++ tableOf countRow (length t - at) (backOne ks x ns)) where
       front-table : Same n (take at t) (frontOne x es) (tableOf countRow at (frontOne x es))
       front-table = same-indices n (take at t) (ok .front) (frontOne x es) (front-indices x es) (tableOf countRow at (frontOne x es)) (ap (λ (k : ℕ). tableOf countRow k (frontOne x es)) (sym front-length))
@@ -126,11 +117,11 @@ module _ (n at s : ℕ) (t : List ℕ) (ok : Halves n at s t) where
       front-size : length (tableOf countRow at (frontOne x es)) ≡ at
       front-size = front-table .size ∙ front-length
 
-      pub put-more : r ≤ s + 1
+      pub put-more : r ≤ s + pick (isNew ks x) 1 0
       put-more = omega (arith, back-length x ks ns, length-rowsOf countRow s (drop at t))
 
       back-fits : length (backOne ks x ns) * 2 ≤ length t - at
-      back-fits = omega (arith, put-more)
+      back-fits = omega arith
 
       front-after : take at t′ ≡ tableOf countRow at (frontOne x es)
       front-after = ap (λ (u : List ℕ). take at u) words ∙ take-at (tableOf countRow at (frontOne x es)) (tableOf countRow (length t - at) (backOne ks x ns)) at front-size
@@ -187,3 +178,51 @@ put-done n at s t t₀ ok ts xs ks e size a b =
           (sym (table-rowsOf countRow n (take at t) (ok .front .laid)) ∙ ap₂ (λ (k : ℕ) (l : List Entry). tableOf countRow k l) (length-take-le at t (ok .within)) a′)
           (sym (table-rowsOf countRow s (drop at t) (ok .back .laid)) ∙ ap₂ (λ (k : ℕ) (l : List Entry). tableOf countRow k l) (length-drop at t ∙ ap (λ (k : ℕ). k - at) size) b′),
     )
+
+-- ---- how many are new
+pub new-more : (ks : List ℕ) (x : CounterTransition) (xs : List CounterTransition) → newRows ks (x ∷ xs) ≡ pick (isNew ks x) 1 0 + newRows ks xs
+new-more ks x xs = length-keep (isNew ks) x xs
+
+pub new-none : (ks : List ℕ) → newRows ks [] ≡ 0
+unfolding keep
+new-none ks = refl
+
+pub new-one : (b : Bool) → pick b 1 0 ≤ 1
+new-one true = omega arith
+new-one false = omega arith
+
+-- one transition: no row is new where it leaves none, or where there is a row of its index
+module _ (ks : List ℕ) (x : CounterTransition) where
+  pub new-not : lands x ≡ false → _≡_ {A = ℕ} 0 (pick (isNew ks x) 1 0)
+  new-not l = rw l
+
+  pub new-there : lands x ≡ true → true ≡ elem (x .idx .0) ks → _≡_ {A = ℕ} 0 (pick (isNew ks x) 1 0)
+  new-there l e = rw (l, ← e)
+
+  pub new-here : lands x ≡ true → false ≡ elem (x .idx .0) ks → _≡_ {A = ℕ} 1 (pick (isNew ks x) 1 0)
+  new-here l e = rw (l, ← e)
+
+-- there is room for a row as long as the new rows to come have room
+module _ (n at s : ℕ) (t t₀ : List ℕ) (same-keys : keys firstWord 2 n (take at t) ≡ keys firstWord 2 n (take at t₀)) where
+  pub room-for : length t ≡ length t₀ → (x : CounterTransition) (xs r : List CounterTransition) → xs ≡ x ∷ r → (ts : List CounterTransition)
+      → s + newRows (keys firstWord 2 n (take at t₀)) xs ≤ newRows (keys firstWord 2 n (take at t₀)) ts
+      → at + newRows (keys firstWord 2 n (take at t₀)) ts * 2 ≤ length t₀
+      → at + length (backOne (keys firstWord 2 n (take at t)) x (rowsOf countRow s (drop at t))) * 2 ≤ length t
+  room-for size x xs r e ts h room =
+      let ks = keys firstWord 2 n (take at t₀) in
+      rw same-keys
+      (omega (
+        arith,
+        back-length x ks (rowsOf countRow s (drop at t)),
+        length-rowsOf countRow s (drop at t),
+        ap (λ (l : List CounterTransition). newRows ks l) e,
+        new-more ks x r,
+      ))
+
+  pub room-left : (x : CounterTransition) (xs r : List CounterTransition) → xs ≡ x ∷ r → (ts : List CounterTransition)
+      → s + newRows (keys firstWord 2 n (take at t₀)) xs ≤ newRows (keys firstWord 2 n (take at t₀)) ts
+      → (s′ : ℕ) → s′ ≤ s + pick (isNew (keys firstWord 2 n (take at t)) x) 1 0
+      → s′ + newRows (keys firstWord 2 n (take at t₀)) r ≤ newRows (keys firstWord 2 n (take at t₀)) ts
+  room-left x xs r e ts h s′ m =
+      let ks = keys firstWord 2 n (take at t₀) in
+      omega (arith, ap (λ (l : List CounterTransition). newRows ks l) e, new-more ks x r, rw same-keys at m)

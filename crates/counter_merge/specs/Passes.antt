@@ -3,7 +3,7 @@
 use Prim.Native.Nat.{ℕ, _+_, _*_, _-_}
 use mathlib.Core.Bool.{Bool, true, false, not, _&&_}
 use mathlib.Core.List.{List, map}
-use lib.ListN.{getD}
+use lib.ListN.{length, getD}
 use lib.Dec.{leb, ltb, eqb}
 use Rattle.base.specs.Logic.{pick, any, elem, keep, fold}
 use Rattle.counters.specs.declared.CounterTransition.{CounterTransition}
@@ -54,9 +54,16 @@ frontOne x es = pick (lands x) (replaced (x .idx .0) (x .«new_raw») es) es
 unfoldable pub fronts : List CounterTransition → List Entry → List Entry
 fronts xs es = fold frontOne xs es
 
+-- it names none of ks, and how many do so
+abbrev pub isNew : List ℕ → CounterTransition → Bool
+isNew ks x = lands x && not (elem (x .idx .0) ks)
+
+abbrev pub newRows : List ℕ → List CounterTransition → ℕ
+newRows ks xs = length (keep (isNew ks) xs)
+
 -- the rows laid aside after one, and after all: a transition that names none of ks sets its count there
 unfoldable pub backOne : List ℕ → CounterTransition → List Entry → List Entry
-backOne ks x ns = pick (lands x && not (elem (x .idx .0) ks)) (setCount (x .idx .0) (x .«new_raw») ns) ns
+backOne ks x ns = pick (isNew ks x) (setCount (x .idx .0) (x .«new_raw») ns) ns
 
 unfoldable pub backs : List ℕ → List CounterTransition → List Entry → List Entry
 backs ks xs ns = fold (backOne ks) xs ns

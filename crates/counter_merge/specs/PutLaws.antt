@@ -10,7 +10,7 @@ use lib.ListN.{length}
 use borrow.Author.Tests.{le-leb, leb-true, eqb-true}
 use Rattle.base.specs.Logic.{pick, all, elem, fold, ascendingFrom}
 use Rattle.base.specs.Laws.{and-right}
-use Rattle.base.specs.ListLaws.{all-weaker}
+use Rattle.base.specs.ListLaws.{all-weaker, length-keep}
 use Rattle.rows.specs.Keys.{putRows}
 use Rattle.rows.specs.RowLaws.{length-put}
 use Rattle.rows.specs.OrderLaws.{putRows-all}
@@ -20,7 +20,7 @@ use Rattle.counters.specs.CountLaws.{length-rowOf}
 use Rattle.counters.specs.Batch.{changes, countsAfter}
 use Rattle.counters.specs.Steps.{leavesRow, some, applyOne}
 use Rattle.counters.specs.ApplyLaws.{turn, some-none, set-ascends}
-use Rattle.counter_merge.specs.Passes.{replaced, lands, frontOne, fronts, backOne, backs, joined, comes}
+use Rattle.counter_merge.specs.Passes.{replaced, lands, frontOne, fronts, isNew, newRows, backOne, backs, joined, comes}
 use Rattle.counter_merge.specs.MarkLaws.{replaced-indices, replaced-none, set-replaced-rows}
 use Rattle.counter_merge.specs.JoinLaws.{join-past, join-into, join-none}
 
@@ -63,7 +63,7 @@ module _ (x : CounterTransition) where
 
   module _ (ks : List ℕ) where
     -- one row more at most
-    pub back-length : (ns : List Entry) → length (backOne ks x ns) ≤ length ns + 1
+    pub back-length : (ns : List Entry) → length (backOne ks x ns) ≤ length ns + pick (isNew ks x) 1 0
     unfolding backOne setCount
     back-length ns = go (lands x && not (elem i ks))
       where
@@ -71,7 +71,7 @@ module _ (x : CounterTransition) where
         one true = omega arith
         one false = omega arith
 
-        go : (b : Bool) → length (pick b (putRows index i (suc i) (rowOf i m) ns) ns) ≤ length ns + 1
+        go : (b : Bool) → length (pick b (putRows index i (suc i) (rowOf i m) ns) ns) ≤ length ns + pick b 1 0
         go true = omega (arith, length-put index i (rowOf i m) ns, length-rowOf i m, one (leb 2 m))
         go false = omega arith
 
@@ -125,10 +125,10 @@ unfolding backs fold
 backs-come ks [] ns c = c
 backs-come ks (x ∷ xs) ns c = backs-come ks xs (backOne ks x ns) (back-comes x ks ns c)
 
-pub backs-length : (ks : List ℕ) (xs : List CounterTransition) (ns : List Entry) → length (backs ks xs ns) ≤ length ns + length xs
+pub backs-length : (ks : List ℕ) (xs : List CounterTransition) (ns : List Entry) → length (backs ks xs ns) ≤ length ns + newRows ks xs
 unfolding backs fold
 backs-length ks [] ns = omega arith
-backs-length ks (x ∷ xs) ns = omega (arith, backs-length ks xs (backOne ks x ns), back-length x ks ns)
+backs-length ks (x ∷ xs) ns = omega (arith, backs-length ks xs (backOne ks x ns), back-length x ks ns, length-keep (isNew ks) x xs)
 
 one-ascends-too : (x : CounterTransition) (es : List Entry) → Ascends es → Ascends (applyOne true x es)
 unfolding applyOne

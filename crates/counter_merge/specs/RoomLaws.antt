@@ -12,19 +12,19 @@ use Rattle.base.specs.Logic.{all, zeros, ascendingFrom}
 use Rattle.base.specs.Laws.{and-right}
 use Rattle.base.specs.ListLaws.{all-weaker}
 use Rattle.rows.specs.Table.{rowsOf, tableOf, Laid}
-use Rattle.rows.specs.TableLaws.{length-rowsOf, rowsOf-table, length-table, zeros-from}
+use Rattle.rows.specs.TableLaws.{rowsOf-table, length-table, zeros-from}
 use Rattle.rows.specs.Keys.{keys, firstWord}
 use Rattle.counters.specs.declared.CounterTransition.{CounterTransition}
 use Rattle.counters.specs.Counts.{Entry}
 use Rattle.counters.specs.declared.Counters.{Counters}
-use Rattle.counters.specs.Layout.{countRow, transitionRow, sound, ordered}
+use Rattle.counters.specs.Layout.{countRow, sound, ordered}
 use Rattle.counters.specs.LayoutLaws.{held}
 use Rattle.counters.specs.Held.{InOrder, Judged}
 use Rattle.counters.specs.Batch.{countsAfter}
 use Rattle.counters.specs.Steps.{transitions, some}
 use Rattle.counters.specs.RowLaws.{indices}
 use Rattle.counters.specs.ApplyLaws.{in-order-table, in-order-ascends}
-use Rattle.counter_merge.specs.Passes.{stands, fronts, backs, joined, comes}
+use Rattle.counter_merge.specs.Passes.{stands, newRows, fronts, backs, joined, comes}
 use Rattle.counter_merge.specs.Halves.{Halves, Apart}
 use Rattle.counter_merge.specs.WordLaws.{rows-front, drop-front}
 use Rattle.counter_merge.specs.TableLaws.{Same, same-indices}
@@ -70,7 +70,7 @@ module _ (n at : ℕ) (t : List ℕ) (ok : InOrder n t) (low : n * 2 ≤ at) (hi
   room-begin = record { front = front-order; back = back-order; within = high }
 
   -- ---- the rows that come are
-  module _ (ts : List CounterTransition) (room : (n + length ts) * 2 ≤ at) (space : at + length ts * 2 ≤ length t) (s : ℕ) (t′ : List ℕ)
+  module _ (ts : List CounterTransition) (room : (n + newRows (keys firstWord 2 n (take at t)) ts) * 2 ≤ at) (space : at + newRows (keys firstWord 2 n (take at t)) ts * 2 ≤ length t) (s : ℕ) (t′ : List ℕ)
       (number : s ≡ length (backs (keys firstWord 2 n (take at t)) ts []))
       (words : t′ ≡ tableOf countRow at (fronts ts (rowsOf countRow n (take at t))) ++ tableOf countRow (length t - at) (backs (keys firstWord 2 n (take at t)) ts [])) where
     abbrev es : List Entry
@@ -90,7 +90,7 @@ module _ (n at : ℕ) (t : List ℕ) (ok : InOrder n t) (low : n * 2 ≤ at) (hi
     front-size : length (tableOf countRow at (fronts ts es)) ≡ at
     front-size = front-table .size ∙ length-take-le at t high
 
-    few : s ≤ length ts
+    few : s ≤ newRows ks ts
     few = omega (arith, number, backs-length ks ts [])
 
     back-fits : length ns * 2 ≤ length t - at
@@ -146,10 +146,6 @@ module _ (n at : ℕ) (t : List ℕ) (ok : InOrder n t) (low : n * 2 ≤ at) (hi
         → (r ≡ length (countsAfter (some true ts) (rowsOf countRow n t))) × (t″ ≡ tableOf countRow (length t) (countsAfter (some true ts) (rowsOf countRow n t)))
     room-end r t″ a b = (a ∙ ap length all-joined, b ∙ ap₂ (λ (k : ℕ) (l : List Entry). tableOf countRow k l) size-after all-joined)
 
--- a batch of words has a third as many transitions
-pub batch-length : (ws : List ℕ) → length (transitions ws) ≡ length ws / 3
-batch-length ws = length-rowsOf transitionRow (length ws / 3) ws
-
 -- ---- a batch that passed every test: each row stands
 pub judged-stand : (c : Counters) (t ws : List ℕ) → Judged c t ws → all stands (rowsOf countRow (c .stored) t) ≡ true
 unfolding ordered
@@ -158,11 +154,11 @@ judged-stand c t ws j =
     (and-right (ascendingFrom 0 (map (λ e. e .idx) (rowsOf countRow (c .stored) t))) (all (sound (c .«next_idx» .0)) (rowsOf countRow (c .stored) t))
     (held c t (j .holding) .sorted))
 
--- ---- a batch, with room for all of its transitions twice
-module _ (n : ℕ) (t ws : List ℕ) (ok : InOrder n t) (enough : length ws / 3 ≤ (length t / 2 - n) / 2) where
+-- ---- a batch, with room for its new rows twice
+module _ (n : ℕ) (t ws : List ℕ) (ok : InOrder n t) (k : ℕ) (counted : k ≡ newRows (keys firstWord 2 n t) (transitions ws)) (enough : k ≤ (length t / 2 - n) / 2) where
   -- the word from which on rows are laid aside
   abbrev aside : ℕ
-  aside = (n + (length t / 2 - n) - length ws / 3) * 2
+  aside = (n + (length t / 2 - n) - k) * 2
 
   whole : n ≤ length t / 2
   whole = omega (arith, ok .laid .fits)
@@ -173,14 +169,19 @@ module _ (n : ℕ) (t ws : List ℕ) (ok : InOrder n t) (enough : length ws / 3 
   high : aside ≤ length t
   high = omega (arith, whole)
 
-  room : (n + length (transitions ws)) * 2 ≤ aside
-  room = omega (arith, whole, batch-length ws)
+  same-new : newRows (keys firstWord 2 n (take aside t)) (transitions ws) ≡ k
+  same-new =
+      ap (λ (ks : List ℕ). newRows ks (transitions ws)) (sym (indices n (take aside t)) ∙ ap (map (λ (e : Entry). e .idx)) (rows-front n aside t low high) ∙ indices n t)
+      ∙ sym counted
 
-  space : aside + length (transitions ws) * 2 ≤ length t
-  space = omega (arith, whole, batch-length ws)
+  room : (n + newRows (keys firstWord 2 n (take aside t)) (transitions ws)) * 2 ≤ aside
+  room = omega (arith, whole, same-new)
 
-  pub batch-begin : Halves n aside 0 t × (aside + length ws / 3 * 2 ≤ length t)
-  batch-begin = (room-begin n aside t ok low high, omega (arith, space, batch-length ws))
+  space : aside + newRows (keys firstWord 2 n (take aside t)) (transitions ws) * 2 ≤ length t
+  space = omega (arith, whole, same-new)
+
+  pub batch-begin : Halves n aside 0 t × (aside + newRows (keys firstWord 2 n (take aside t)) (transitions ws) * 2 ≤ length t)
+  batch-begin = (room-begin n aside t ok low high, space)
 
   module _ (s : ℕ) (t′ : List ℕ) (number : s ≡ length (backs (keys firstWord 2 n (take aside t)) (transitions ws) []))
       (words : t′ ≡ tableOf countRow aside (fronts (transitions ws) (rowsOf countRow n (take aside t)))

@@ -5,6 +5,8 @@ use mathlib.Core.Bool.{Bool, true, false, _||_}
 use mathlib.Core.List.{List, [], _∷_, _++_, map}
 use Prim.Native.Nat.{ℕ, suc, _+_, _*_, _≤_, _<_}
 use native.Mathlib.Omega.{arith}
+use lib.Dec.{eqb}
+use borrow.Author.Tests.{eqb-true, eqb-false}
 use lib.ListN.{length, take, drop, getD, set, length-map}
 use lib.Seq.{set-getD}
 use Rattle.base.specs.Logic.{all, any, elem, fold, ascendingFrom}
@@ -56,6 +58,14 @@ module _ (n : ℕ) (t : List ℕ) (ok : InOrder n t) (i m k : ℕ) (here : k ≡
 
   pub replaced-past : n ≤ k → (false ≡ elem i (keys firstWord 2 n t)) × (t ≡ tableOf countRow (length t) (replaced i m es))
   replaced-past h = none (elem-miss i 0 (keys firstWord 2 n t) (in-order-sorted n t ok) (λ g q. absurd (omega (arith, length-keys firstWord 2 n t, g, here))))
+
+-- whether the row at the place of the index has it
+pub row-there : (n : ℕ) (t : List ℕ) → InOrder n t → (i k : ℕ) → k ≡ place i (keys firstWord 2 n t) → k < n → eqb (getD t (k * 2) 0) i ≡ elem i (keys firstWord 2 n t)
+row-there n t ok i k here h = go (eqb (getD t (k * 2) 0) i) refl
+  where
+    go : (b : Bool) → eqb (getD t (k * 2) 0) i ≡ b → b ≡ elem i (keys firstWord 2 n t)
+    go true e = replaced-here n t ok i 0 k here h (eqb-true (getD t (k * 2) 0) i e) .0
+    go false e = replaced-miss n t ok i 0 k here h (eqb-false (getD t (k * 2) 0) i e) .0
 
 -- ---- other rows of the same indices
 pub record Same (n : ℕ) (t : List ℕ) (es : List Entry) (t′ : List ℕ) : Type 0 where

@@ -6,7 +6,7 @@ use counters::NextIdx;
 ghost use mathlib.Core.Path.{_≡_};
 ghost use mathlib.Core.Bool.{true, false};
 ghost use mathlib.Core.List.{[], _∷_, _++_};
-ghost use Prim.Native.Nat.{_+_, _-_, _*_, _/_, _≤_, _<_};
+ghost use Prim.Native.Nat.{_+_, _-_, _*_, _≤_, _<_};
 ghost use lib.ListN.{length, take, drop, getD};
 ghost use Rattle.base.specs.Logic.{pick, all, elem, flat};
 ghost use Rattle.rows.specs.Table as rows-table;
@@ -18,7 +18,7 @@ ghost use Rattle.counters.specs.Batch.{kept, countsAfter, stateAfter};
 ghost use Rattle.counters.specs.Held.{InOrder, Judged};
 ghost use Rattle.counters.specs.Steps.{transition, transitions, some};
 ghost use Rattle.counters.specs.RowLaws.{rowAt};
-ghost use Rattle.counter_merge.specs.Passes.{stands, standing, replaced, hits, anyHit, markOne, marked, frontOne, fronts, backOne, backs, joined, frontLast, lastAt};
+ghost use Rattle.counter_merge.specs.Passes.{stands, standing, replaced, hits, anyHit, markOne, marked, isNew, newRows, frontOne, fronts, backOne, backs, joined, frontLast, lastAt};
 ghost use Rattle.counter_merge.specs.Halves.{Halves, Apart};
 
 // Gives the row of idx the count new, if there is such a row. Returns whether there is.
@@ -114,11 +114,52 @@ fn drop_rows(t: &mut [u64], n: usize, b: &[u64]) -> usize
     n
 }
 
+// Whether there is a row of idx.
+fn has_row(t: &[u64], n: usize, idx: u64) -> bool
+    requires { ⌜ InOrder n (now t) ⌝ }
+    ensures { λ r. ⌜ r ≡ elem idx (keys firstWord 2 n (now (t .entry))) ⌝ }
+{
+    let k = rows::find(t, 2, n, idx);
+    if k < n {
+        return t[k * 2] == idx;
+    }
+    false
+}
+
+// 1 for a transition that is kept and leaves a row where there is none, else 0.
+fn is_new(t: &[u64], n: usize, idx: u64, old: u64, new: u64) -> usize
+    requires { ⌜ InOrder n (now t) ⌝ }
+    ensures { λ r. ⌜ r ≡ pick (isNew (keys firstWord 2 n (now (t .entry))) (transition idx old new)) 1 0 ⌝ }
+{
+    if counter_steps::is_due(true, idx, old, new) {
+        if has_row(t, n, idx) {
+            return 0;
+        }
+        return 1;
+    }
+    0
+}
+
+// How many of them there are.
+fn new_rows(t: &[u64], n: usize, b: &[u64]) -> usize
+    requires { ⌜ InOrder n (now t) ⌝ }
+    ensures { λ r. ⌜ r ≡ newRows (keys firstWord 2 n (now (t .entry))) (transitions (now (b .entry))) ⌝ }
+{
+    let m = b.len() / 3;
+    let mut k = 0;
+    let mut i = 0;
+    while i < m {
+        k += is_new(t, n, b[i * 3], b[i * 3 + 1], b[i * 3 + 2]);
+        i += 1;
+    }
+    k
+}
+
 // Applies one transition, if it is kept and leaves a row: its row gets the new count in place, or a row is laid aside from the word `at` on.
 // Returns how many rows are laid aside then.
 fn put_one(t: &mut [u64], n: usize, at: usize, s: usize, idx: u64, old: u64, new: u64) -> usize
     requires { ⌜ Halves n at s (now t) ⌝ }
-    requires { ⌜ at + (s + 1) * 2 ≤ length (now t) ⌝ }
+    requires { ⌜ at + length (backOne (keys firstWord 2 n (take at (now t))) (transition idx old new) (rowsOf countRow s (drop at (now t)))) * 2 ≤ length (now t) ⌝ }
     ensures { λ r. ⌜ (r ≡ length (backOne (keys firstWord 2 n (take at (now (t .entry)))) (transition idx old new) (rowsOf countRow s (drop at (now (t .entry)))))) × (now (t .exit) ≡ rows-table.tableOf countRow at (frontOne (transition idx old new) (rowsOf countRow n (take at (now (t .entry))))) ++ rows-table.tableOf countRow (length (now (t .entry)) - at) (backOne (keys firstWord 2 n (take at (now (t .entry)))) (transition idx old new) (rowsOf countRow s (drop at (now (t .entry)))))) ⌝ }
 {
     if counter_steps::is_due(true, idx, old, new) {
@@ -133,7 +174,7 @@ fn put_one(t: &mut [u64], n: usize, at: usize, s: usize, idx: u64, old: u64, new
 // Applies all of them. Returns how many rows are laid aside.
 fn put_all(t: &mut [u64], n: usize, at: usize, b: &[u64]) -> usize
     requires { ⌜ Halves n at 0 (now t) ⌝ }
-    requires { ⌜ at + length (now b) / 3 * 2 ≤ length (now t) ⌝ }
+    requires { ⌜ at + newRows (keys firstWord 2 n (take at (now t))) (transitions (now b)) * 2 ≤ length (now t) ⌝ }
     ensures { λ r. ⌜ (r ≡ length (backs (keys firstWord 2 n (take at (now (t .entry)))) (transitions (now (b .entry))) [])) × (now (t .exit) ≡ rows-table.tableOf countRow at (fronts (transitions (now (b .entry))) (rowsOf countRow n (take at (now (t .entry))))) ++ rows-table.tableOf countRow (length (now (t .entry)) - at) (backs (keys firstWord 2 n (take at (now (t .entry)))) (transitions (now (b .entry))) [])) ⌝ }
 {
     let m = b.len() / 3;
@@ -189,12 +230,12 @@ fn put_rows(t: &mut [u64], n: usize, b: &[u64]) -> usize
     requires { ⌜ length (countsAfter (some true (transitions (now b))) (rowsOf countRow n (now t))) * 2 ≤ length (now t) ⌝ }
     ensures { λ r. ⌜ (r ≡ length (countsAfter (some true (transitions (now (b .entry)))) (rowsOf countRow n (now (t .entry))))) × (now (t .exit) ≡ rows-table.tableOf countRow (length (now (t .entry))) (countsAfter (some true (transitions (now (b .entry)))) (rowsOf countRow n (now (t .entry))))) ⌝ }
 {
-    let m = b.len() / 3;
+    let k = new_rows(t, n, b);
     let free = t.len() / 2 - n;
-    if free / 2 < m {
+    if free / 2 < k {
         return counter_steps::apply_some(t, n, b, true);
     }
-    let at = (n + free - m) * 2;
+    let at = (n + free - k) * 2;
     let s = put_all(t, n, at, b);
     merge(t, n, at, s)
 }

@@ -1,6 +1,6 @@
 use mathlib.Core.Path.{_≡_, refl, sym, ap, _∙_}
 use mathlib.Core.List.{List, []}
-use Prim.Native.Nat.{_/_, ℕ, suc, _+_, _-_, _*_, _≤_}
+use Prim.Native.Nat.{_/_, ℕ, suc, _+_, _-_, _≤_}
 use native.Mathlib.Omega.{arith}
 use native.Mathlib.Numerals.{add-one}
 use borrow.Author.Needs.{needs}
@@ -10,9 +10,9 @@ use Rattle.rows.specs.Keys.{keys, firstWord}
 use Rattle.counters.specs.Layout.{countRow}
 use Rattle.counters.specs.Steps.{transitionAt, transitions}
 use Rattle.counters.specs.StepLaws.{in-batch, from-transition, no-transition}
-use Rattle.counter_merge.specs.Passes.{fronts, backOne, backs}
+use Rattle.counter_merge.specs.Passes.{newRows, fronts, backOne, backs}
 use Rattle.counter_merge.specs.Halves.{Halves}
-use Rattle.counter_merge.specs.AsideLaws.{no-rows, put-more, put-size, put-halves, put-keys, put-fronts, put-backs, front-turn, back-turn, put-done}
+use Rattle.counter_merge.specs.AsideLaws.{room-for, room-left, no-rows, put-more, put-size, put-halves, put-keys, put-fronts, put-backs, front-turn, back-turn, put-done}
 use Rattle.counter_merge.proofs.put_all.Statement.{statement}
 use Rattle.counter_merge.proofs.put_all.Tie as tie
 
@@ -20,7 +20,7 @@ abbrev Inv-loop : tie.InvT-loop
 Inv-loop t₀ n at b m s₀ i₀ t s i =
     (i ≤ length b / 3) × (length t ≡ length t₀) × Halves n at s t × (keys firstWord 2 n (take at t) ≡ keys firstWord 2 n (take at t₀))
     × (fronts (drop i (transitions b)) (rowsOf countRow n (take at t)) ≡ fronts (transitions b) (rowsOf countRow n (take at t₀)))
-    × (backs (keys firstWord 2 n (take at t₀)) (drop i (transitions b)) (rowsOf countRow s (drop at t)) ≡ backs (keys firstWord 2 n (take at t₀)) (transitions b) []) × (s ≤ i)
+    × (backs (keys firstWord 2 n (take at t₀)) (drop i (transitions b)) (rowsOf countRow s (drop at t)) ≡ backs (keys firstWord 2 n (take at t₀)) (transitions b) []) × (s + newRows (keys firstWord 2 n (take at t₀)) (drop i (transitions b)) ≤ newRows (keys firstWord 2 n (take at t₀)) (transitions b))
 
 abbrev μ-loop : tie.MeasureT-loop
 μ-loop t₀ n at b m s₀ i₀ t s i = length b / 3 - i
@@ -65,7 +65,11 @@ put-one-requires : tie.Need-put-one-requires Inv-loop μ-loop
 put-one-requires c κs =
     let l = c .before .before .before .before .before .loop in
     let s = c .before .before .before .before .before .before .before .before in
-    (l .inv .2, omega (arith, l .inv .1, l .inv .6, s .pre .1))
+    let a = s .args in (
+      l .inv .2,
+      room-for (a .n) (a .at) (l .s) (l .t) (a .t .now) (l .inv .3) (l .inv .1) (transitionAt (a .b .now) (l .i)) (drop (l .i) (transitions (a .b .now))) (drop (suc (l .i)) (transitions (a .b .now)))
+          (from-transition (a .b .now) (l .i) (omega arith)) (transitions (a .b .now)) (l .inv .6) (s .pre .1),
+    )
 
 add-i : tie.Need-add-i Inv-loop μ-loop
 add-i c = omega arith
@@ -81,8 +85,9 @@ loop-again c =
     let x = transitionAt (a .b .now) (l .i) in
     let r = drop (suc (l .i)) (transitions (a .b .now)) in
     let f = c .before .before .put-one in
-    let room : a .at + (l .s + 1) * 2 ≤ length (l .t) = omega (arith, l .inv .1, l .inv .6, s .pre .1) in
-    let next = sym (from-transition (a .b .now) (l .i) (omega arith)) in
+    let first = from-transition (a .b .now) (l .i) (omega arith) in
+    let room = room-for (a .n) (a .at) (l .s) (l .t) (a .t .now) (l .inv .3) (l .inv .1) x (drop (l .i) (transitions (a .b .now))) r first (transitions (a .b .now)) (l .inv .6) (s .pre .1) in
+    let next = sym first in
     let ks = keys firstWord 2 (a .n) (take (a .at) (a .t .now)) in
     let es = rowsOf countRow (a .n) (take (a .at) (l .t)) in
     let ns = rowsOf countRow (l .s) (drop (a .at) (l .t)) in
@@ -95,7 +100,9 @@ loop-again c =
           (front-turn x r es ∙ ap (λ ts. fronts ts es) next ∙ l .inv .4),
       rw (add-one, put-backs (a .n) (a .at) (l .s) (l .t) (l .inv .2) x room (f .result) _ (f .ensures .0) (f .ensures .1), same)
           (back-turn ks x r ns ∙ ap (λ ts. backs ks ts ns) next ∙ l .inv .5),
-      omega (arith, l .inv .6, put-more (a .n) (a .at) (l .s) (l .t) (l .inv .2) x room (f .result) _ (f .ensures .0) (f .ensures .1)),
+      rw add-one
+          (room-left (a .n) (a .at) (l .s) (l .t) (a .t .now) (l .inv .3) x (drop (l .i) (transitions (a .b .now))) r first (transitions (a .b .now)) (l .inv .6) (f .result)
+          (put-more (a .n) (a .at) (l .s) (l .t) (l .inv .2) x room (f .result) _ (f .ensures .0) (f .ensures .1))),
     )
 
 same-length : tie.Need-same-length Inv-loop μ-loop

@@ -2,7 +2,7 @@ use mathlib.Core.Path.{sym, _∙_}
 use borrow.Author.Needs.{needs}
 use lib.Seq.{length-take-le}
 use Rattle.counters.specs.Steps.{transition}
-use Rattle.counter_merge.specs.AsideLaws.{put-found, put-aside, put-other, back-room}
+use Rattle.counter_merge.specs.AsideLaws.{put-found, put-aside, put-other, aside-is, back-room}
 use Rattle.counter_merge.proofs.put_one.Statement.{statement}
 use Rattle.counter_merge.proofs.put_one.Tie as tie
 
@@ -44,7 +44,11 @@ set-count-requires : tie.Need-set-count-requires
 set-count-requires c κs =
     let s = c .before .before .before .before .before .before .before .before .before in
     let a = s .args in
-    back-room (a .n) (a .at) (a .s) (a .t .now) (s .pre .0) (a .idx) (a .new) _ (c .before .before .before .before .replace .ensures .1) (s .pre .1)
+    let f = c .before .before .before .before in
+    let x = transition (a .idx) (a .old) (a .new) in
+    let l = sym (f .before .before .before .is-due .ensures) ∙ f .before .before .if1 .taken in
+    let e = aside-is (a .n) (a .at) (a .s) (a .t .now) (s .pre .0) x l (sym (c .before .if2 .left) ∙ f .replace .ensures .0) in
+    back-room (a .n) (a .at) (a .s) (a .t .now) (s .pre .0) (a .idx) (a .new) _ (f .replace .ensures .1) (rw e at (s .pre .1))
 
 same-length-2 : tie.Need-same-length-2
 same-length-2 c = search needs
