@@ -119,7 +119,7 @@ fn has_row(t: &[u64], n: usize, idx: u64) -> bool
     requires { ⌜ InOrder n (now t) ⌝ }
     ensures { λ r. ⌜ r ≡ elem idx (keys firstWord 2 n (now (t .entry))) ⌝ }
 {
-    let k = rows::find(t, 2, n, idx);
+    let k = row_search::find(t, 2, n, idx);
     if k < n {
         return t[k * 2] == idx;
     }
