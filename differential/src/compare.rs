@@ -8,10 +8,10 @@ use std::sync::Arc;
 use rayon::ThreadPool;
 
 use crate::definition::{self, Counters, Drained, Nursery};
-use crate::storage::shard_state::original::Original;
 use crate::port::Port;
 use crate::roaring::{Broken, Bytes};
 use crate::steps::{Delta, Hash, Insert, KINDS, Room, Sizes, Step};
+use crate::storage::shard_state::original::Original;
 
 /// How much was compared.
 #[derive(Clone, Default)]
@@ -289,7 +289,8 @@ impl Sides {
         let theirs = sorted(&theirs, large);
         if self.runs && theirs != wanted {
             self.tally.know("S2", "keeps runs");
-            let read = Counters::read(&theirs, usize::MAX).map_err(|e| format!("original: a snapshot that is no snapshot: {e:?}"))?;
+            let read =
+                Counters::read(&theirs, usize::MAX).map_err(|e| format!("original: a snapshot that is no snapshot: {e:?}"))?;
             return same("original", "snapshot without its runs", &read.serialize(), &wanted);
         }
         same("original", "snapshot", &theirs, &wanted)

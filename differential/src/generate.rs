@@ -3,9 +3,9 @@ use std::collections::BTreeSet;
 
 use crate::compare::Sides;
 use crate::definition::{Counters, Nursery};
-use crate::storage::shard_state::original::Original;
 use crate::roaring::Form;
 use crate::steps::{Delta, Hash, Insert, Room, Sizes, Step};
+use crate::storage::shard_state::original::Original;
 
 /// Numbers that look random, from a seed.
 pub struct Random(u64);

@@ -47,7 +47,8 @@ struct Orders {
 }
 
 fn orders() -> Result<Orders, String> {
-    let mut o = Orders { steps: 1_000_000, seconds: u64::MAX, seed: 1, run: None, replay: None, sample: None, threads: 1, lie: false };
+    let mut o =
+        Orders { steps: 1_000_000, seconds: u64::MAX, seed: 1, run: None, replay: None, sample: None, threads: 1, lie: false };
     let mut words = std::env::args().skip(1);
     while let Some(word) = words.next() {
         let mut number = || words.next().and_then(|n| n.parse().ok()).ok_or(format!("{word} takes a number"));
@@ -168,7 +169,7 @@ impl Program {
 }
 
 fn print(tally: &Tally, runs: u64, start: Instant) {
-    println!("{} steps in {runs} runs, {} s, no difference in them", tally.total(), start.elapsed().as_secs());
+    println!("{} steps in {runs} runs agree, {} s", tally.total(), start.elapsed().as_secs());
     for (name, n) in KINDS.iter().zip(tally.steps) {
         println!("  {name:<14}{n:>12}");
     }

@@ -186,19 +186,27 @@ fn journal(
     }
 }
 
-// The call of any kind.
+// The call of any kind, which its first byte says.
 pub(crate) fn run(
-    kind: u8,
     c: Counters,
     n: Nursery,
     t: &mut [u64],
     es: &mut [u64],
     ws: &mut [u64],
     cs: &mut [u8],
-    call: &[u8],
+    step: &[u8],
     wanted: &[u8],
 ) -> Ran {
-    match kind {
+    let none = Ran {
+        agrees: false,
+        counters: c,
+        nursery: n,
+    };
+    if step.len() < 1 {
+        return none;
+    }
+    let call = &step[1..];
+    match step[0] {
         1 => item(1, c, n, t, es, ws, cs, call, wanted),
         2 => item(2, c, n, t, es, ws, cs, call, wanted),
         3 => item(3, c, n, t, es, ws, cs, call, wanted),
@@ -206,7 +214,7 @@ pub(crate) fn run(
         6 => shrink(c, n, t, call, wanted),
         8 => read(c, n, t, call, wanted),
         13 => journal(c, es, ws, cs, call, wanted),
-        _ => {
+        kind => {
             Ran {
                 agrees: agrees(kind, c, n, t, es, cs, call, wanted),
                 counters: c,

@@ -22,7 +22,6 @@ mod lines;
 mod reads;
 
 use cell_nursery::Nursery;
-use changes::Ran;
 use changes::run;
 use counters::Counters;
 use counters::NextIdx;
@@ -58,38 +57,6 @@ fn first_step(s: &[u8]) -> usize
     next_line(s, next_line(s, next_line(s, 0)))
 }
 
-fn report(place: usize, agrees: bool) {
-    if !agrees {
-        io::write_all(STDOUT_FILENO, b"DIFFERS: step ");
-        io::print_decimal(STDOUT_FILENO, place as u64);
-        io::write_all(STDOUT_FILENO, b"\n");
-    }
-}
-
-// A step, whose call and answer are decoded.
-fn step(
-    place: usize,
-    c: Counters,
-    n: Nursery,
-    t: &mut [u64],
-    es: &mut [u64],
-    ws: &mut [u64],
-    cs: &mut [u8],
-    call: &[u8],
-    wanted: &[u8],
-) -> Ran {
-    if call.len() < 1 {
-        return Ran {
-            agrees: false,
-            counters: c,
-            nursery: n,
-        };
-    }
-    let r = run(call[0], c, n, t, es, ws, cs, &call[1..], wanted);
-    report(place, r.agrees);
-    r
-}
-
 // The box after a step, and where the next step begins.
 struct Turned {
     next: usize,
@@ -102,7 +69,6 @@ struct Turned {
 fn turn(
     s: &[u8],
     at: usize,
-    place: usize,
     c: Counters,
     n: Nursery,
     t: &mut [u64; 128],
@@ -119,7 +85,7 @@ fn turn(
     let b = take_line(s, a.next, &mut wanted);
     let k = a.len;
     let m = b.len;
-    let r = step(place, c, n, t, es, ws, cs, &call[0..k], &wanted[0..m]);
+    let r = run(c, n, t, es, ws, cs, &call[0..k], &wanted[0..m]);
     let counters = r.counters;
     let nursery = r.nursery;
     Turned {
@@ -130,12 +96,18 @@ fn turn(
     }
 }
 
-// How many answers agree, with one more answer.
-fn counted(good: usize, agrees: bool) -> usize
+// How many answers agree, with one more answer. One that doesn't is named.
+fn counted(good: usize, agrees: bool, place: usize) -> usize
     requires { ⌜ good ≤ 300 ⌝ }
     ensures { λ r. ⌜ r ≤ good + 1 ⌝ }
 {
-    if agrees { good + 1 } else { good }
+    if agrees {
+        return good + 1;
+    }
+    io::write_all(STDOUT_FILENO, b"DIFFERS: step ");
+    io::print_decimal(STDOUT_FILENO, place as u64);
+    io::write_all(STDOUT_FILENO, b"\n");
+    good
 }
 
 // Room for 64 counts, 32 entries and 2,048 cell bytes.
@@ -151,23 +123,13 @@ fn replay(s: &[u8]) {
     let mut good: usize = 0;
     let mut i = 0;
     while i < STEPS {
-        let r = turn(
-            s,
-            at,
-            i,
-            counters,
-            nursery,
-            &mut t,
-            &mut es,
-            &mut ws,
-            &mut cs,
-        );
+        let r = turn(s, at, counters, nursery, &mut t, &mut es, &mut ws, &mut cs);
         at = r.next;
         let c = r.counters;
         counters = c;
         let n = r.nursery;
         nursery = n;
-        good = counted(good, r.agrees);
+        good = counted(good, r.agrees, i);
         i += 1;
     }
     io::print_decimal(STDOUT_FILENO, good as u64);
