@@ -8,10 +8,10 @@ use std::sync::Arc;
 use rayon::ThreadPool;
 
 use crate::definition::{self, Counters, Drained, Nursery};
-use crate::storage::shard_state::original::Original;
 use crate::port::Port;
 use crate::roaring::{Broken, Bytes};
 use crate::steps::{Delta, Hash, Insert, KINDS, Room, Sizes, Step};
+use crate::storage::shard_state::original::Original;
 
 /// How much was compared.
 #[derive(Clone, Default)]
@@ -53,7 +53,7 @@ pub struct Sides {
     port: Port,
     records: u64,
     /// The original may have containers of runs.
-    runs: bool,
+    pub runs: bool,
     /// The original may hand out hashes twice.
     doubles: bool,
     /// The port is told something else in each batch, to see that it is found.
@@ -96,7 +96,8 @@ fn written(what: &str, out: &[u8], answer: Result<usize, u8>, wanted: &[u8]) -> 
     same("port", "output beyond the answer", &rest.iter().all(|b| *b == BEFORE), &true)
 }
 
-fn sorted(snapshot: &[u8], large: usize) -> Vec<u8> {
+/// A snapshot with its large entries by ascending index.
+pub fn sorted(snapshot: &[u8], large: usize) -> Vec<u8> {
     let (front, back) = snapshot.split_at(snapshot.len() - 16 * large);
     let mut entries: Vec<&[u8]> = back.chunks_exact(16).collect();
     entries.sort_by_key(|e| u64::from_le_bytes(e[..8].try_into().unwrap()));
@@ -111,7 +112,8 @@ fn once(all: Drained) -> Drained {
     kept
 }
 
-fn number_of(said: &str) -> u8 {
+/// The refusal that the original's words stand for.
+pub fn number_of(said: &str) -> u8 {
     let words = [("version", 7), ("empty", 8), ("unexpected end", 8), ("bitmap", 9), ("big ", 10)];
     words.iter().find(|(word, _)| said.contains(word)).map_or(0, |(_, n)| *n)
 }
@@ -185,7 +187,7 @@ impl Sides {
             Step::Listing(room) => self.listing(*room),
             Step::Encode(id, delta, room) => self.encode(*id, delta, *room).map(|_| ()),
             Step::Decode(bytes) => self.decode(bytes),
-            Step::Journal { cut, flip, keep } => self.read_journal(*cut, *flip, *keep),
+            Step::Journal { keep, .. } => self.read_journal(self.cut_journal(step), *keep),
             Step::Hash(bytes) => self.hash(bytes),
         }
     }
@@ -287,7 +289,8 @@ impl Sides {
         let theirs = sorted(&theirs, large);
         if self.runs && theirs != wanted {
             self.tally.know("S2", "keeps runs");
-            let read = Counters::read(&theirs, usize::MAX).map_err(|e| format!("original: a snapshot that is no snapshot: {e:?}"))?;
+            let read =
+                Counters::read(&theirs, usize::MAX).map_err(|e| format!("original: a snapshot that is no snapshot: {e:?}"))?;
             return same("original", "snapshot without its runs", &read.serialize(), &wanted);
         }
         same("original", "snapshot", &theirs, &wanted)
@@ -474,13 +477,19 @@ impl Sides {
         same("original", "taking a record", &theirs.unwrap_or(Err("panic".into())).is_ok(), &false)
     }
 
-    fn read_journal(&mut self, cut: u64, flip: Option<u64>, keep: bool) -> Compared {
+    /// The journal that a step reads.
+    pub fn cut_journal(&self, step: &Step) -> Vec<u8> {
+        let Step::Journal { cut, flip, .. } = step else { return Vec::new() };
         let mut journal = self.journal.clone();
         journal.truncate((cut % (journal.len() as u64 + 1)) as usize);
         if let (Some(flip), false) = (flip, journal.is_empty()) {
             let bit = flip % (8 * journal.len() as u64);
             journal[(bit / 8) as usize] ^= 1 << (bit % 8);
         }
+        journal
+    }
+
+    fn read_journal(&mut self, journal: Vec<u8>, keep: bool) -> Compared {
         self.tally.bytes += journal.len() as u64;
         let (nursery, applied, place, number) = definition::read_journal(&journal, &self.sizes, &Original::hash);
         let entries = nursery.listing();

@@ -294,7 +294,8 @@ impl Nursery {
     }
 
     pub fn listing(&self) -> Vec<Insert> {
-        let insert = |(hash, e): (&Hash, &Entry)| Insert { hash: *hash, idx: e.idx, born_round: e.born_round, cell: e.cell.clone() };
+        let insert =
+            |(hash, e): (&Hash, &Entry)| Insert { hash: *hash, idx: e.idx, born_round: e.born_round, cell: e.cell.clone() };
         self.entries.iter().map(insert).collect()
     }
 

@@ -3,9 +3,9 @@ use std::collections::BTreeSet;
 
 use crate::compare::Sides;
 use crate::definition::{Counters, Nursery};
-use crate::storage::shard_state::original::Original;
 use crate::roaring::Form;
 use crate::steps::{Delta, Hash, Insert, Room, Sizes, Step};
+use crate::storage::shard_state::original::Original;
 
 /// Numbers that look random, from a seed.
 pub struct Random(u64);
@@ -146,6 +146,19 @@ impl Run {
             weights[10] *= 10;
         }
         Run { sizes, steps, dense, bases, spread, hashes, round, longest_cell, weights, inserted: BTreeSet::new(), r }
+    }
+
+    /// A run for the list that is kept: one small box.
+    pub fn sample(seed: u64, sizes: Sizes) -> Self {
+        let mut run = Run::new(seed);
+        let mut hashes: Vec<Hash> = Vec::new();
+        for _ in 0..12 {
+            let hash = a_hash(&mut run.r, &hashes);
+            hashes.push(hash);
+        }
+        let bases = vec![0, 65_533, HALF - 3];
+        let weights = [0, 6, 20, 12, 0, 3, 2, 2, 3, 0, 24, 0, 20, 12, 10, 3, 4, 6, 3, 3];
+        Run { sizes, dense: false, bases, spread: 8, hashes, round: 0, longest_cell: 20, weights, ..run }
     }
 
     pub fn step(&mut self, sides: &Sides) -> Step {

@@ -37,8 +37,8 @@ pub fn set_figures(c: &mut Counters, f: &Figures) {
     c.maintenance = maintenance(f);
 }
 
-/// Shrinks, where the set of all stored indices would save as many bytes as are handed in. The original adds them to others for its log, so a
-/// figure that no memory has is brought down.
+/// Shrinks, where the set of all stored indices would save as many bytes as are handed in. The original adds them to others
+/// for its log, so a figure that no memory has is brought down.
 pub fn shrink(c: &mut Counters, saved: u64) {
     c.present_in_any_small_tier.saved = Some(saved.min(1 << 40) as usize);
     c.shrink_if_needed();

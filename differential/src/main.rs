@@ -12,6 +12,7 @@ mod definition;
 mod generate;
 mod port;
 mod roaring;
+mod sample;
 mod shrink;
 mod steps;
 
@@ -40,12 +41,14 @@ struct Orders {
     seed: u64,
     run: Option<u64>,
     replay: Option<String>,
+    sample: Option<String>,
     threads: usize,
     lie: bool,
 }
 
 fn orders() -> Result<Orders, String> {
-    let mut o = Orders { steps: 1_000_000, seconds: u64::MAX, seed: 1, run: None, replay: None, threads: 1, lie: false };
+    let mut o =
+        Orders { steps: 1_000_000, seconds: u64::MAX, seed: 1, run: None, replay: None, sample: None, threads: 1, lie: false };
     let mut words = std::env::args().skip(1);
     while let Some(word) = words.next() {
         let mut number = || words.next().and_then(|n| n.parse().ok()).ok_or(format!("{word} takes a number"));
@@ -56,6 +59,7 @@ fn orders() -> Result<Orders, String> {
             "--threads" => o.threads = number()? as usize,
             "--run" => o.run = Some(number()?),
             "--replay" => o.replay = Some(words.next().ok_or("--replay takes a file")?),
+            "--sample" => o.sample = Some(words.next().ok_or("--sample takes a file")?),
             "--lie" => o.lie = true,
             _ => return Err(format!("unknown: {word}")),
         }
@@ -165,7 +169,7 @@ impl Program {
 }
 
 fn print(tally: &Tally, runs: u64, start: Instant) {
-    println!("{} steps in {runs} runs, {} s, no difference in them", tally.total(), start.elapsed().as_secs());
+    println!("{} steps in {runs} runs agree, {} s", tally.total(), start.elapsed().as_secs());
     for (name, n) in KINDS.iter().zip(tally.steps) {
         println!("  {name:<14}{n:>12}");
     }
@@ -188,9 +192,13 @@ fn main() -> ExitCode {
             return ExitCode::from(2);
         }
     };
+    let pool = Arc::new(rayon::ThreadPoolBuilder::new().num_threads(orders.threads).build().unwrap());
+    if let Some(path) = &orders.sample {
+        pool.install(|| sample::write(path, orders.seed, pool.clone()));
+        return ExitCode::SUCCESS;
+    }
     // Foreseen panics say nothing; others are differences, which say their words.
     std::panic::set_hook(Box::new(|_| {}));
-    let pool = Arc::new(rayon::ThreadPoolBuilder::new().num_threads(orders.threads).build().unwrap());
     let program = Program { orders, pool: pool.clone(), progress: own_standard_error() };
     // Inside the pool, so that the original passes no work to another thread.
     let fine = pool.install(|| match &program.orders.replay {

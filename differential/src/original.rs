@@ -175,8 +175,8 @@ impl Original {
         listing(&self.nursery)
     }
 
-    /// The first records of a journal, one by one, into an empty nursery: its listing, and the place after them. It is the nursery from here on,
-    /// if it is to be kept.
+    /// The first records of a journal, one by one, into an empty nursery: its listing, and the place after them. It is the
+    /// nursery from here on, if it is to be kept.
     pub fn read_records(&mut self, journal: &[u8], records: usize, keep: bool) -> Result<(Vec<Insert>, usize), String> {
         let nursery = CellNursery::new(self.stripes, self.pool.clone());
         let mut rest = journal;

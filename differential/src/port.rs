@@ -1,6 +1,8 @@
-//! The port's side: the crate `selvaigo` over tables of the run's sizes. A call that changes nothing is made in both forms, held and checked,
-//! which have to agree; the others are made in the form that the run names. A checked call's tables are judged again after it.
-use selvaigo::{CellNursery, CounterTransition, Counters, DeltaItems, HashBytes, Idx, NextIdx, NurseryParts, PromotedCell, Refusal, raw};
+//! The port's side: the crate `selvaigo` over tables of the run's sizes. A call that changes nothing is made in both forms, held and
+//! checked, which have to agree; the others are made in the form that the run names. A checked call's tables are judged again after it.
+use selvaigo::{
+    CellNursery, CounterTransition, Counters, DeltaItems, HashBytes, Idx, NextIdx, NurseryParts, PromotedCell, Refusal, raw,
+};
 
 use crate::definition::{Drained, Refused, items};
 use crate::steps::{Delta, Hash, Sizes};

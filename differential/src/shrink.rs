@@ -52,9 +52,13 @@ fn shorter(steps: &mut [Step], at: usize, fails: &dyn Fn(&[Step]) -> bool) {
         Step::Hash(bytes) => Step::Hash(fewer(bytes, &|b| with(Step::Hash(b.to_vec())))),
         Step::Delta(mut delta) => {
             let kept = delta.clone();
-            delta.inserts = fewer(delta.inserts, &|i| with(Step::Delta(crate::steps::Delta { inserts: i.to_vec(), removes: kept.removes.clone() })));
+            delta.inserts = fewer(delta.inserts, &|i| {
+                with(Step::Delta(crate::steps::Delta { inserts: i.to_vec(), removes: kept.removes.clone() }))
+            });
             let kept = delta.clone();
-            delta.removes = fewer(delta.removes, &|r| with(Step::Delta(crate::steps::Delta { inserts: kept.inserts.clone(), removes: r.to_vec() })));
+            delta.removes = fewer(delta.removes, &|r| {
+                with(Step::Delta(crate::steps::Delta { inserts: kept.inserts.clone(), removes: r.to_vec() }))
+            });
             Step::Delta(delta)
         }
         step => step,

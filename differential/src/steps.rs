@@ -65,13 +65,35 @@ pub enum Step {
     Decode(Vec<u8>),
     /// The journal so far, cut at a byte and with a bit changed (places are taken modulo the length), read into an empty nursery; and
     /// whether that is the nursery from here on.
-    Journal { cut: u64, flip: Option<u64>, keep: bool },
+    Journal {
+        cut: u64,
+        flip: Option<u64>,
+        keep: bool,
+    },
     Hash(Vec<u8>),
 }
 
 pub const KINDS: [&str; 20] = [
-    "new", "allocate", "batch", "get", "figures", "shrink", "should_shrink", "adjust", "snapshot", "read_back", "read", "empty",
-    "delta", "drain", "lookup", "listing", "encode", "decode", "journal", "hash",
+    "new",
+    "allocate",
+    "batch",
+    "get",
+    "figures",
+    "shrink",
+    "should_shrink",
+    "adjust",
+    "snapshot",
+    "read_back",
+    "read",
+    "empty",
+    "delta",
+    "drain",
+    "lookup",
+    "listing",
+    "encode",
+    "decode",
+    "journal",
+    "hash",
 ];
 
 impl Step {
