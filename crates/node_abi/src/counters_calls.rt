@@ -15,8 +15,8 @@ ghost use lib.ListN.{length};
 ghost use Rattle.base.specs.Answers.{answerNumber};
 ghost use Rattle.counters.specs.Layout as layout;
 ghost use Rattle.counters.specs.Maintenance.{standard, shouldShrink, adjustShrinkThreshold};
-ghost use Rattle.state_words.specs.Words.{countersOf, countersWords, said};
-ghost use Rattle.node_abi.specs.CountersSaid.{bit, decisions, newSaid, allocSaid, getSaid, batchSaid, shrinkSaid};
+ghost use Rattle.state_words.specs.Words.{countersOf, countersWords, said, bit, decisions};
+ghost use Rattle.word_calls.specs.CountersSaid.{newSaid, allocSaid, getSaid, batchSaid, shrinkSaid};
 
 // Counters with nothing stored, whose next index is handed over.
 #[no_mangle]

@@ -15,9 +15,8 @@ ghost use mathlib.Core.List.{[], _∷_};
 ghost use lib.ListN.{length};
 ghost use Rattle.base.specs.Answers.{answerNumber};
 ghost use Rattle.cell_nursery.specs.Layout.{holds, holdsEntries, holdsCells};
-ghost use Rattle.state_words.specs.Words.{nurseryOf, nurseryWords, said};
-ghost use Rattle.node_abi.specs.CountersSaid.{bit};
-ghost use Rattle.node_abi.specs.NurserySaid.{emptySaid, commitSaid, drainSaid, idxSaid, dataSaid, listingSaid};
+ghost use Rattle.state_words.specs.Words.{nurseryOf, nurseryWords, said, bit};
+ghost use Rattle.word_calls.specs.NurserySaid.{emptySaid, commitSaid, drainSaid, idxSaid, dataSaid, listingSaid};
 
 // The record that a call leaves is written, and its answer's number returned.
 fn put_committed(committed: Committed, nursery: &mut [u64]) -> u8

@@ -11,7 +11,7 @@ ghost use lib.ListN.{length};
 ghost use Rattle.base.specs.Answers.{answerNumber};
 ghost use Rattle.counters.specs.Layout as layout;
 ghost use Rattle.state_words.specs.Words.{countersOf, said};
-ghost use Rattle.node_abi.specs.CountersSaid.{lengthSaid, serializeSaid, deserializeSaid};
+ghost use Rattle.word_calls.specs.CountersSaid.{lengthSaid, serializeSaid, deserializeSaid};
 
 // A snapshot's length is written, and the answer's number returned.
 fn put_wrote(wrote: Wrote, len: &mut [u64; 1]) -> u8

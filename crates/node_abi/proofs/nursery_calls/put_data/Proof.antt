@@ -1,5 +1,5 @@
 -- `node_abi::put_data` meets its contract: a bool that is cast is 1 or 0. Assumes nothing.
-use Rattle.node_abi.specs.NurserySaidLaws.{bool-bit}
+use Rattle.state_words.specs.WordLaws.{bool-bit}
 use borrow.Author.Needs.{needs}
 use Rattle.node_abi.proofs.nursery_calls.put_data.Statement.{statement}
 use Rattle.node_abi.proofs.nursery_calls.put_data.Tie as tie

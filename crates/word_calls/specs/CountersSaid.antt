@@ -2,12 +2,9 @@
 -- record that the words spell. A record of another length is 20, with values of 0 and nothing changed.
 -- Assumes nothing.
 use Prim.Native.Nat.{ℕ}
-use mathlib.Core.Bool.{Bool, true, false}
 use mathlib.Core.List.{List, [], _∷_}
-use lib.ListN.{getD}
 use Rattle.base.specs.Logic.{zeros}
 use Rattle.base.specs.Answers.{answerNumber}
-use Rattle.base.specs.Output.{Written}
 use Rattle.base.specs.declared.Answer.{Answer}
 use Rattle.base.specs.declared.Answer.the-variants.{Taken, Refused}
 use Rattle.base.specs.declared.Wrote.{Wrote}
@@ -19,16 +16,7 @@ use Rattle.counters.specs.Maintenance.{standard}
 use Rattle.counters.specs.Calls.{Changed, newCall, allocCall, getCall, batchCall, shrinkCall}
 use Rattle.snapshot.specs.Calls.{serializeCall, deserializeCall}
 use Rattle.snapshot_write.specs.Calls.{lengthCall}
-use Rattle.state_words.specs.Words.{countersWords, Said, said, brokenSaid, overCounters}
-
--- a yes is 1, a no 0
-abbrev pub bit : Bool → ℕ
-bit true = 1
-bit false = 0
-
--- one value of one word
-abbrev pub oneWord : ℕ → List (List ℕ)
-oneWord n = (n ∷ []) ∷ []
+use Rattle.state_words.specs.Words.{countersWords, decisions, Said, said, oneWord, writtenSaid, brokenSaid, overCounters}
 
 -- ---- what the calls under them give, in words
 
@@ -44,12 +32,6 @@ allocatedSaid x = said (answerNumber (x .answer)) (oneWord (x .idx .0)) (counter
 unfoldable pub gotSaid : Got → Said
 gotSaid x = said (answerNumber (x .answer)) (oneWord (x .count .0)) []
 
--- the nine decisions: for the set of all stored indices, then for the eight sets
-abbrev pub decisions : Bool → List Bool → List ℕ
-decisions alive s =
-    bit alive ∷ bit (getD s 0 false) ∷ bit (getD s 1 false) ∷ bit (getD s 2 false) ∷ bit (getD s 3 false)
-    ∷ bit (getD s 4 false) ∷ bit (getD s 5 false) ∷ bit (getD s 6 false) ∷ bit (getD s 7 false) ∷ []
-
 -- what is to be shrunk: the value is the decisions, and the record's words are written
 unfoldable pub shrunkSaid : Shrunk → Said
 shrunkSaid x = said (answerNumber (x .answer)) (decisions (x .alive) (x .small) ∷ []) (countersWords (x .counters) ∷ [])
@@ -57,10 +39,6 @@ shrunkSaid x = said (answerNumber (x .answer)) (decisions (x .alive) (x .small) 
 -- a length that was found
 unfoldable pub lengthFound : Wrote → Said
 lengthFound x = said (answerNumber (x .answer)) (oneWord (x .len)) []
-
--- an output that was written: the value is its length
-unfoldable pub writtenSaid : Written → Said
-writtenSaid x = said (answerNumber (x .result .answer)) (oneWord (x .result .len)) (x .out ∷ [])
 
 -- the words of a record after a call that makes one: beside a refusal those that were there
 abbrev pub wordsAfter : List ℕ → Answer → Counters → List ℕ

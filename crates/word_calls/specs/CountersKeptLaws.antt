@@ -6,7 +6,7 @@ use mathlib.Core.Path.{_≡_, refl, subst}
 use mathlib.Core.Bool.{true}
 use mathlib.Core.List.{List, [], _∷_}
 use native.Mathlib.Omega.{arith}
-use lib.ListN.{length, getD}
+use lib.ListN.{length}
 use Rattle.base.specs.Logic.{zeros}
 use Rattle.base.specs.Answers.{Outcome, refused, taken, _>>=_, orRefuse, answerOf, valueOr, answerNumber, numberOf}
 use Rattle.base.specs.Output.{put, fitting, written}
@@ -26,15 +26,11 @@ use Rattle.snapshot.specs.Read.{readSnapshot}
 use Rattle.snapshot.specs.Calls.{serializeCall, deserializeCall}
 use Rattle.snapshot_write.specs.Calls.{lengthCall}
 use Rattle.snapshot_laws.specs.CallLaws.{deserialize-taken-holds}
-use Rattle.state_words.specs.Words.{countersOf, countersWords, Said}
+use Rattle.state_words.specs.Words.{countersOf, countersWords, oneWord, writtenSaid, Unchanged, left}
 use Rattle.state_words.specs.WordLaws.{counters-words-back, length-counters-words, over-counters, each-counters-way}
-use Rattle.node_abi.specs.CountersSaid.{oneWord, wordsAfter, changedSaid, allocatedSaid, gotSaid, shrunkSaid, lengthFound, writtenSaid, readSaid, newSaid, allocSaid, getSaid, batchSaid, shrinkSaid, lengthSaid, serializeSaid, deserializeSaid}
+use Rattle.word_calls.specs.CountersSaid.{wordsAfter, changedSaid, allocatedSaid, gotSaid, shrunkSaid, lengthFound, readSaid, newSaid, allocSaid, getSaid, batchSaid, shrinkSaid, lengthSaid, serializeSaid, deserializeSaid}
 
 -- ---- refusals
-
--- beside a refusal these are the values, and these the slices
-abbrev pub Unchanged : List (List ℕ) → List (List ℕ) → Said → Type 0
-Unchanged vs ls s = (s .answer ≡ 0 → ⊥) → (s .values ≡ vs) × (s .lent ≡ ls)
 
 module _ (w : List ℕ) where
   pub new-unchanged : (next : ℕ) (t : List ℕ) → Unchanged [] (w ∷ t ∷ []) (newSaid next w t)
@@ -103,10 +99,6 @@ module _ (w : List ℕ) where
 -- what the held forms require
 abbrev pub Held : List ℕ → List ℕ → Type 0
 Held w t = (length w ≡ 13) × (holds (countersOf w) t ≡ true)
-
--- a slice that a call leaves, by its place
-abbrev pub left : ℕ → Said → List ℕ
-left k s = getD (s .lent) k []
 
 -- a record's words hold what it holds
 words-held : (c : Counters) (t : List ℕ) → holds c t ≡ true → Held (countersWords c) t

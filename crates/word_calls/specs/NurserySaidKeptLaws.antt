@@ -19,13 +19,11 @@ use Rattle.cell_nursery.specs.Drain.{promotionDelay, drained, drainBytes, looku
 use Rattle.cell_nursery.specs.Layout.{roomOf, stateOf, entriesOf, holds, holdsEntries, holdsCells}
 use Rattle.cell_nursery.specs.HashLaws.{U64}
 use Rattle.cell_nursery.specs.Calls.{lengthWidth, onState, laid, laidOut, newCall, deltaCall, drainedOut, drainCall, foundOf, lookupCall, cellAt, dataOf, dataCall, listingCall}
-use Rattle.state_words.specs.Words.{nurseryOf, nurseryWords}
+use Rattle.state_words.specs.Words.{nurseryOf, nurseryWords, oneWord, writtenSaid, Unchanged, left}
 use Rattle.state_words.specs.WordLaws.{nursery-words-back, length-nursery-words, over-nursery, each-nursery-way}
 use Rattle.journal_laws.specs.DeltaLaws.{Bytes}
 use Rattle.journal_laws.specs.HoldLaws.{new-holds, delta-holds, drain-holds}
-use Rattle.node_abi.specs.CountersSaid.{oneWord, writtenSaid}
-use Rattle.node_abi.specs.CountersKeptLaws.{Unchanged, left}
-use Rattle.node_abi.specs.NurserySaid.{flag, committedSaid, emptySaid, commitSaid, drainedSaid, drainSaid, foundSaid, idxSaid, placedSaid, dataSaid, listingSaid}
+use Rattle.word_calls.specs.NurserySaid.{flag, committedSaid, emptySaid, commitSaid, drainedSaid, drainSaid, foundSaid, idxSaid, placedSaid, dataSaid, listingSaid}
 
 -- ---- refusals
 module _ (w es ws cs : List ℕ) where

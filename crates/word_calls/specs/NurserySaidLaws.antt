@@ -1,10 +1,8 @@
 -- What a call on the nursery gives over words, from what the call under it gives.
 -- Assumes nothing.
 use Prim.Native.Nat.{ℕ}
-use mathlib.Core.Path.{_≡_, refl, ap}
-use mathlib.Core.Bool.{Bool, true, false}
+use mathlib.Core.Path.{_≡_, ap}
 use mathlib.Core.List.{List, [], _∷_}
-use mir.Val.{boolByte}
 use Rattle.base.specs.Answers.{answerNumber}
 use Rattle.base.specs.Output.{Written}
 use Rattle.base.specs.declared.Wrote.{Wrote}
@@ -13,9 +11,8 @@ use Rattle.cell_nursery.specs.declared.Drained.{Drained}
 use Rattle.cell_nursery.specs.declared.Found.{Found}
 use Rattle.cell_nursery.specs.declared.Data.{Data}
 use Rattle.cell_nursery.specs.Calls.{Changed, changed, DrainedOut, drainedAs, wrote}
-use Rattle.state_words.specs.Words.{nurseryWords, said}
-use Rattle.node_abi.specs.CountersSaid.{bit, writtenSaid}
-use Rattle.node_abi.specs.NurserySaid.{committedSaid, drainedSaid, foundSaid, placedSaid}
+use Rattle.state_words.specs.Words.{nurseryWords, said, bit, writtenSaid}
+use Rattle.word_calls.specs.NurserySaid.{committedSaid, drainedSaid, foundSaid, placedSaid}
 
 pub committed-said : {x : Committed} {es ws cs v : List ℕ} {y : Changed} {r : ℕ} → changed x es ws cs ≡ y
     → (r ≡ answerNumber (x .answer)) × (v ≡ nurseryWords (x .nursery)) → said r [] (v ∷ es ∷ ws ∷ cs ∷ []) ≡ committedSaid y
@@ -41,8 +38,3 @@ pub written-said : {x : Wrote} {out n : List ℕ} {y : Written} {r : ℕ} → wr
     → said r (n ∷ []) (out ∷ []) ≡ writtenSaid y
 unfolding writtenSaid
 written-said e p = rw (p .0, p .1) (ap writtenSaid e)
-
--- a bool that is cast to a number
-pub bool-bit : (b : Bool) → boolByte b ≡ bit b
-bool-bit true = refl
-bool-bit false = refl

@@ -9,7 +9,7 @@ use Rattle.format.specs.declared.Decoded.{Decoded}
 use Rattle.format.specs.Calls.{EncodedOut, encodeCall, decodeCall}
 use Rattle.journal.specs.Journal.{ReadIn, readCall}
 use Rattle.state_words.specs.Words.{nurseryWords, Said, said, brokenSaid, overNursery}
-use Rattle.node_abi.specs.NurserySaid.{flag}
+use Rattle.word_calls.specs.NurserySaid.{flag}
 
 -- the figures of a record
 abbrev pub statWords : RecordStats → List ℕ

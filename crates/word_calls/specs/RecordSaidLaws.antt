@@ -10,7 +10,7 @@ use Rattle.format.specs.Calls.{EncodedOut}
 use Rattle.journal.specs.declared.JournalRead.{JournalRead}
 use Rattle.journal.specs.Journal.{ReadIn}
 use Rattle.state_words.specs.Words.{nurseryWords, said}
-use Rattle.node_abi.specs.RecordSaid.{statWords, encodedSaid, decodedSaid, readInSaid}
+use Rattle.word_calls.specs.RecordSaid.{statWords, encodedSaid, decodedSaid, readInSaid}
 
 pub encoded-said : {x : Encoded} {t : List ℕ} {y : EncodedOut} {r : ℕ} → record { result = x; out = t } ≡ y → r ≡ answerNumber (x .answer)
     → said r ((x .len ∷ statWords (x .stats)) ∷ []) (t ∷ []) ≡ encodedSaid y

@@ -19,9 +19,9 @@ use Rattle.counters.specs.Maintenance.{standard}
 use Rattle.counters.specs.Calls.{changed, made, newCall, allocCall, getCall, batchCall, shrinkCall}
 use Rattle.snapshot.specs.Calls.{serializeCall, deserializeCall}
 use Rattle.snapshot_write.specs.Calls.{lengthCall, outcome}
-use Rattle.state_words.specs.Words.{countersOf, countersWords, said}
+use Rattle.state_words.specs.Words.{countersOf, countersWords, said, oneWord, decisions, writtenSaid}
 use Rattle.state_words.specs.WordLaws.{over-counters, not-counters}
-use Rattle.node_abi.specs.CountersSaid.{oneWord, decisions, changedSaid, allocatedSaid, gotSaid, shrunkSaid, lengthFound, writtenSaid, readSaid, newSaid, allocSaid, getSaid, batchSaid, shrinkSaid, lengthSaid, serializeSaid, deserializeSaid}
+use Rattle.word_calls.specs.CountersSaid.{changedSaid, allocatedSaid, gotSaid, shrunkSaid, lengthFound, readSaid, newSaid, allocSaid, getSaid, batchSaid, shrinkSaid, lengthSaid, serializeSaid, deserializeSaid}
 
 -- ---- a record of another length
 module _ (w : List ℕ) (h : length w ≡ 13 → ⊥) {r : ℕ} (p : r ≡ numberOf Broken) where

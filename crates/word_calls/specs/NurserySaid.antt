@@ -10,8 +10,7 @@ use Rattle.cell_nursery.specs.declared.Found.{Found}
 use Rattle.cell_nursery.specs.declared.Data.{Data}
 use Rattle.cell_nursery.specs.Drain.{promotionDelay}
 use Rattle.cell_nursery.specs.Calls.{Changed, newCall, deltaCall, DrainedOut, drainCall, lookupCall, dataCall, listingCall}
-use Rattle.state_words.specs.Words.{nurseryWords, Said, said, brokenSaid, overNursery}
-use Rattle.node_abi.specs.CountersSaid.{bit, oneWord, writtenSaid}
+use Rattle.state_words.specs.Words.{nurseryWords, Said, said, brokenSaid, overNursery, bit, oneWord, writtenSaid}
 
 -- a flag over the C boundary: any number but 0 says yes
 abbrev pub flag : ℕ → Bool
