@@ -1,7 +1,7 @@
--- `node_abi::put_drained` meets its contract. Assumes nothing.
+-- `state_steps::put_drained` meets its contract. Assumes nothing.
 use borrow.Author.Needs.{needs}
-use Rattle.node_abi.proofs.nursery_calls.put_drained.Statement.{statement}
-use Rattle.node_abi.proofs.nursery_calls.put_drained.Tie as tie
+use Rattle.state_steps.proofs.put_drained.Statement.{statement}
+use Rattle.state_steps.proofs.put_drained.Tie as tie
 
 put-nursery-requires : tie.Need-put-nursery-requires
 put-nursery-requires c κs = search needs

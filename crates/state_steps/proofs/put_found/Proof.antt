@@ -1,8 +1,8 @@
--- `node_abi::put_found` meets its contract: a bool that is cast is 1 or 0. Assumes nothing.
+-- `state_steps::put_found` meets its contract: a bool that is cast is 1 or 0. Assumes nothing.
 use Rattle.state_words.specs.WordLaws.{bool-bit}
 use borrow.Author.Needs.{needs}
-use Rattle.node_abi.proofs.nursery_calls.put_found.Statement.{statement}
-use Rattle.node_abi.proofs.nursery_calls.put_found.Tie as tie
+use Rattle.state_steps.proofs.put_found.Statement.{statement}
+use Rattle.state_steps.proofs.put_found.Tie as tie
 
 cast-t4 : tie.Need-cast-t4
 cast-t4 c = search needs

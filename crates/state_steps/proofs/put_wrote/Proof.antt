@@ -1,8 +1,8 @@
--- `node_abi::put_wrote` meets its contract. Assumes nothing.
+-- `state_steps::put_wrote` meets its contract. Assumes nothing.
 use mathlib.Core.Path.{refl}
 use borrow.Author.Needs.{needs}
-use Rattle.node_abi.proofs.nursery_calls.put_wrote.Statement.{statement}
-use Rattle.node_abi.proofs.nursery_calls.put_wrote.Tie as tie
+use Rattle.state_steps.proofs.put_wrote.Statement.{statement}
+use Rattle.state_steps.proofs.put_wrote.Tie as tie
 
 number-requires : tie.Need-number-requires
 number-requires c κs = search needs
