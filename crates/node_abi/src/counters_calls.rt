@@ -1,10 +1,10 @@
 // The counters' calls.
-use counters::Applied;
 use counters::CounterMaintenance;
-use counters::Got;
 use counters::Idx;
 use counters::NextIdx;
-use counters::Shrunk;
+use state_steps::put_applied;
+use state_steps::put_got;
+use state_steps::put_shrunk;
 use state_words::broken;
 use state_words::counters_of;
 use state_words::put_counters;
@@ -12,11 +12,10 @@ ghost use mathlib.Core.Path.{_≡_};
 ghost use mathlib.Core.Bool.{true};
 ghost use mathlib.Core.List.{[], _∷_};
 ghost use lib.ListN.{length};
-ghost use Rattle.base.specs.Answers.{answerNumber};
 ghost use Rattle.counters.specs.Layout as layout;
 ghost use Rattle.counters.specs.Maintenance.{standard, shouldShrink, adjustShrinkThreshold};
-ghost use Rattle.state_words.specs.Words.{countersOf, countersWords, said};
-ghost use Rattle.node_abi.specs.CountersSaid.{bit, decisions, newSaid, allocSaid, getSaid, batchSaid, shrinkSaid};
+ghost use Rattle.state_words.specs.Words.{countersOf, said, bit};
+ghost use Rattle.word_calls.specs.CountersSaid.{newSaid, allocSaid, getSaid, batchSaid, shrinkSaid};
 
 // Counters with nothing stored, whose next index is handed over.
 #[no_mangle]
@@ -46,15 +45,6 @@ pub extern "C" fn selvaigo_alloc_idx(state: &mut [u64], idx: &mut [u64; 1]) -> u
     let after = x.counters;
     put_counters(state, after);
     let a = x.answer;
-    a.number()
-}
-
-// A count that was read is written, and its answer's number returned.
-fn put_got(got: Got, count: &mut [u64; 1]) -> u8
-    ensures { λ r. ⌜ (r ≡ answerNumber (got .answer)) × (now (count .exit) ≡ got .count .0 ∷ []) ⌝ }
-{
-    *count = [got.count.0];
-    let a = got.answer;
     a.number()
 }
 
@@ -88,17 +78,6 @@ pub extern "C" fn selvaigo_get_held(
     put_got(x, count)
 }
 
-// The record that a batch leaves is written, and its answer's number returned.
-fn put_applied(applied: Applied, state: &mut [u64]) -> u8
-    requires { ⌜ length (now state) ≡ 13 ⌝ }
-    ensures { λ r. ⌜ (r ≡ answerNumber (applied .answer)) × (now (state .exit) ≡ countersWords (applied .counters)) ⌝ }
-{
-    let c = applied.counters;
-    put_counters(state, c);
-    let a = applied.answer;
-    a.number()
-}
-
 // A batch of transitions.
 #[no_mangle]
 pub extern "C" fn selvaigo_apply_batch(state: &mut [u64], counts: &mut [u64], batch: &[u64]) -> u8
@@ -125,29 +104,6 @@ pub extern "C" fn selvaigo_apply_batch_held(
     let c = counters_of(state);
     let x = counter_batch::apply_batch_held(c, counts, batch);
     put_applied(x, state)
-}
-
-// The nine decisions and the record after them are written, and the answer's number returned.
-fn put_shrunk(decided: Shrunk, state: &mut [u64], shrunk: &mut [u64; 9]) -> u8
-    requires { ⌜ length (now state) ≡ 13 ⌝ }
-    ensures { λ r. ⌜ (r ≡ answerNumber (decided .answer)) × (now (shrunk .exit) ≡ decisions (decided .alive) (decided .small)) × (now (state .exit) ≡ countersWords (decided .counters)) ⌝ }
-{
-    let s = decided.small;
-    *shrunk = [
-        decided.alive as u64,
-        s[0] as u64,
-        s[1] as u64,
-        s[2] as u64,
-        s[3] as u64,
-        s[4] as u64,
-        s[5] as u64,
-        s[6] as u64,
-        s[7] as u64,
-    ];
-    let c = decided.counters;
-    put_counters(state, c);
-    let a = decided.answer;
-    a.number()
 }
 
 // Which sets are to be shrunk.

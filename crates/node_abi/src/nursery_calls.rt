@@ -1,34 +1,20 @@
 // The nursery's calls. A form named .._held requires of the record and the tables what the form beside it tests.
-use base::Wrote;
-use cell_nursery::Committed;
-use cell_nursery::Data;
-use cell_nursery::Drained;
-use cell_nursery::Found;
 use nursery_commit::apply_commit;
 use nursery_commit::apply_commit_held;
+use state_steps::put_committed;
+use state_steps::put_data;
+use state_steps::put_drained;
+use state_steps::put_found;
+use state_steps::put_wrote;
 use state_words::broken;
 use state_words::nursery_of;
-use state_words::put_nursery;
 ghost use mathlib.Core.Path.{_≡_};
 ghost use mathlib.Core.Bool.{true};
 ghost use mathlib.Core.List.{[], _∷_};
 ghost use lib.ListN.{length};
-ghost use Rattle.base.specs.Answers.{answerNumber};
 ghost use Rattle.cell_nursery.specs.Layout.{holds, holdsEntries, holdsCells};
-ghost use Rattle.state_words.specs.Words.{nurseryOf, nurseryWords, said};
-ghost use Rattle.node_abi.specs.CountersSaid.{bit};
-ghost use Rattle.node_abi.specs.NurserySaid.{emptySaid, commitSaid, drainSaid, idxSaid, dataSaid, listingSaid};
-
-// The record that a call leaves is written, and its answer's number returned.
-fn put_committed(committed: Committed, nursery: &mut [u64]) -> u8
-    requires { ⌜ length (now nursery) ≡ 3 ⌝ }
-    ensures { λ r. ⌜ (r ≡ answerNumber (committed .answer)) × (now (nursery .exit) ≡ nurseryWords (committed .nursery)) ⌝ }
-{
-    let after = committed.nursery;
-    put_nursery(nursery, after);
-    let a = committed.answer;
-    a.number()
-}
+ghost use Rattle.state_words.specs.Words.{nurseryOf, said};
+ghost use Rattle.word_calls.specs.NurserySaid.{emptySaid, commitSaid, drainSaid, idxSaid, dataSaid, listingSaid};
 
 // An empty nursery.
 #[no_mangle]
@@ -91,18 +77,6 @@ pub extern "C" fn selvaigo_apply_commit_held(
     put_committed(x, nursery)
 }
 
-// The record after draining and how many bytes were handed out are written, and the answer's number returned.
-fn put_drained(drained: Drained, nursery: &mut [u64], len: &mut [u64; 1]) -> u8
-    requires { ⌜ length (now nursery) ≡ 3 ⌝ }
-    ensures { λ r. ⌜ (r ≡ answerNumber (drained .answer)) × (now (len .exit) ≡ drained .len ∷ []) × (now (nursery .exit) ≡ nurseryWords (drained .nursery)) ⌝ }
-{
-    *len = [drained.len as u64];
-    let after = drained.nursery;
-    put_nursery(nursery, after);
-    let a = drained.answer;
-    a.number()
-}
-
 // What is due for promotion at a round, written into the output.
 #[no_mangle]
 pub extern "C" fn selvaigo_drain_promotable(
@@ -144,15 +118,6 @@ pub extern "C" fn selvaigo_drain_promotable_held(
     put_drained(x, nursery, len)
 }
 
-// Whether a hash is there and its index are written, and the answer's number returned.
-fn put_found(entry: Found, found: &mut [u64; 2]) -> u8
-    ensures { λ r. ⌜ (r ≡ answerNumber (entry .answer)) × (now (found .exit) ≡ bit (entry .found) ∷ entry .idx .0 ∷ []) ⌝ }
-{
-    *found = [entry.found as u64, entry.idx.0];
-    let a = entry.answer;
-    a.number()
-}
-
 // The index of a hash.
 #[no_mangle]
 pub extern "C" fn selvaigo_get_idx(
@@ -184,15 +149,6 @@ pub extern "C" fn selvaigo_get_idx_held(
 {
     let x = nursery_table::get_idx_held(nursery_of(nursery), entries, *hash);
     put_found(x, found)
-}
-
-// Whether a hash is there and where its cell lies are written, and the answer's number returned.
-fn put_data(cell: Data, found: &mut [u64; 3]) -> u8
-    ensures { λ r. ⌜ (r ≡ answerNumber (cell .answer)) × (now (found .exit) ≡ bit (cell .found) ∷ cell .place ∷ cell .len ∷ []) ⌝ }
-{
-    *found = [cell.found as u64, cell.place as u64, cell.len as u64];
-    let a = cell.answer;
-    a.number()
 }
 
 // Where the cell of a hash lies.
@@ -228,15 +184,6 @@ pub extern "C" fn selvaigo_get_data_held(
 {
     let x = nursery_table::get_data_held(nursery_of(nursery), entries, cells, *hash);
     put_data(x, found)
-}
-
-// The listing's length is written, and the answer's number returned.
-fn put_wrote(wrote: Wrote, len: &mut [u64; 1]) -> u8
-    ensures { λ r. ⌜ (r ≡ answerNumber (wrote .answer)) × (now (len .exit) ≡ wrote .len ∷ []) ⌝ }
-{
-    *len = [wrote.len as u64];
-    let a = wrote.answer;
-    a.number()
 }
 
 // The listing, written into the output.

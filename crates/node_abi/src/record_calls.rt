@@ -5,7 +5,7 @@ ghost use mathlib.Core.Path.{_≡_};
 ghost use mathlib.Core.List.{[], _∷_};
 ghost use Rattle.blake3.specs.Spec as blake3;
 ghost use Rattle.state_words.specs.Words.{said};
-ghost use Rattle.node_abi.specs.RecordSaid.{encodeSaid, decodeSaid, journalSaid};
+ghost use Rattle.word_calls.specs.RecordSaid.{encodeSaid, decodeSaid, journalSaid};
 
 // The hash of bytes.
 #[no_mangle]

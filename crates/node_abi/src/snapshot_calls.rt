@@ -1,6 +1,6 @@
 // The calls for the counters' snapshots.
 use base::Answer;
-use base::Wrote;
+use state_steps::put_wrote;
 use state_words::broken;
 use state_words::counters_of;
 use state_words::put_counters;
@@ -8,19 +8,9 @@ ghost use mathlib.Core.Path.{_≡_};
 ghost use mathlib.Core.Bool.{true};
 ghost use mathlib.Core.List.{[], _∷_};
 ghost use lib.ListN.{length};
-ghost use Rattle.base.specs.Answers.{answerNumber};
 ghost use Rattle.counters.specs.Layout as layout;
 ghost use Rattle.state_words.specs.Words.{countersOf, said};
-ghost use Rattle.node_abi.specs.CountersSaid.{lengthSaid, serializeSaid, deserializeSaid};
-
-// A snapshot's length is written, and the answer's number returned.
-fn put_wrote(wrote: Wrote, len: &mut [u64; 1]) -> u8
-    ensures { λ r. ⌜ (r ≡ answerNumber (wrote .answer)) × (now (len .exit) ≡ wrote .len ∷ []) ⌝ }
-{
-    *len = [wrote.len as u64];
-    let a = wrote.answer;
-    a.number()
-}
+ghost use Rattle.word_calls.specs.CountersSaid.{lengthSaid, serializeSaid, deserializeSaid};
 
 // How many bytes the snapshot takes.
 #[no_mangle]

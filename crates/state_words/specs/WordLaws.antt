@@ -9,12 +9,18 @@ use native.Mathlib.Nat.{add-zero}
 use lib.ListN.{length, drop, getD}
 use lib.Seq.{paste, drop-cons, drop-length}
 use lib.Dec.{eqb}
+use mir.Val.{boolByte}
 use borrow.Author.Tests.{eqb-true, eq-eqb, ne-eqb}
 use Rattle.base.specs.Logic.{pick, overlay}
 use Rattle.slices.specs.Laws.{paste-start}
 use Rattle.counters.specs.declared.Counters.{Counters}
 use Rattle.cell_nursery.specs.declared.Nursery.{Nursery}
-use Rattle.state_words.specs.Words.{countersOf, countersWords, nurseryOf, nurseryWords, Said, overCounters, overNursery}
+use Rattle.state_words.specs.Words.{bit, countersOf, countersWords, nurseryOf, nurseryWords, Said, overCounters, overNursery}
+
+-- a bool that is cast to a number
+pub bool-bit : (b : Bool) → boolByte b ≡ bit b
+bool-bit true = refl
+bool-bit false = refl
 
 -- ---- lengths
 pub length-counters-words : (c : Counters) → length (countersWords c) ≡ 13

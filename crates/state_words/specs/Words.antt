@@ -1,11 +1,14 @@
 -- The two state records as words in the order of docs/LAYOUT.md, and what a call that is lent words gives and leaves.
 -- Assumes nothing.
 use Prim.Native.Nat.{ℕ}
+use mathlib.Core.Path.{_≡_}
+use mathlib.Core.Bool.{Bool, true, false}
 use mathlib.Core.List.{List, [], _∷_}
 use lib.ListN.{length, getD}
 use lib.Dec.{eqb}
 use Rattle.base.specs.Logic.{pick}
-use Rattle.base.specs.Answers.{numberOf}
+use Rattle.base.specs.Answers.{answerNumber, numberOf}
+use Rattle.base.specs.Output.{Written}
 use Rattle.base.specs.declared.Refusal.the-variants.{Broken}
 use Rattle.counters.specs.declared.Counters.{Counters}
 use Rattle.cell_nursery.specs.declared.Nursery.{Nursery}
@@ -45,6 +48,17 @@ nurseryOf w = record { entries = getD w 0 0; waiting = getD w 1 0; «cell_bytes�
 abbrev pub nurseryWords : Nursery → List ℕ
 nurseryWords n = n .entries ∷ n .waiting ∷ n .«cell_bytes» ∷ []
 
+-- a yes is 1, a no 0
+abbrev pub bit : Bool → ℕ
+bit true = 1
+bit false = 0
+
+-- the nine decisions: for the set of all stored indices, then for the eight sets
+abbrev pub decisions : Bool → List Bool → List ℕ
+decisions alive s =
+    bit alive ∷ bit (getD s 0 false) ∷ bit (getD s 1 false) ∷ bit (getD s 2 false) ∷ bit (getD s 3 false)
+    ∷ bit (getD s 4 false) ∷ bit (getD s 5 false) ∷ bit (getD s 6 false) ∷ bit (getD s 7 false) ∷ []
+
 -- what a call that is lent words gives: its answer's number, what it writes through each value pointer, and what it leaves of each
 -- slice that it is lent to write, in the order of its parameters
 pub record Said : Type 0 where
@@ -58,6 +72,22 @@ said r vs ls = record { answer = r; values = vs; lent = ls }
 -- 20, with these values and slices
 abbrev pub brokenSaid : List (List ℕ) → List (List ℕ) → Said
 brokenSaid vs ls = said (numberOf Broken) vs ls
+
+-- one value of one word
+abbrev pub oneWord : ℕ → List (List ℕ)
+oneWord n = (n ∷ []) ∷ []
+
+-- an output that was written: the value is its length
+unfoldable pub writtenSaid : Written → Said
+writtenSaid x = said (answerNumber (x .result .answer)) (oneWord (x .result .len)) (x .out ∷ [])
+
+-- beside a refusal these are the values, and these the slices
+abbrev pub Unchanged : List (List ℕ) → List (List ℕ) → Said → Type 0
+Unchanged vs ls s = (s .answer ≡ 0 → ⊥) → (s .values ≡ vs) × (s .lent ≡ ls)
+
+-- a slice that a call leaves, by its place
+abbrev pub left : ℕ → Said → List ℕ
+left k s = getD (s .lent) k []
 
 -- a call on the counters that a slice of 13 words spells; with another length, what stands first
 unfoldable pub overCounters : List ℕ → Said → (Counters → Said) → Said

@@ -1,6 +1,6 @@
 -- `node_abi::counters_calls::selvaigo_alloc_idx` meets its contract: the call under it, over words. Assumes nothing.
 use borrow.Author.Needs.{needs}
-use Rattle.node_abi.specs.CountersSaidLaws.{alloc-broken, alloc-said}
+use Rattle.word_calls.specs.CountersSaidLaws.{alloc-broken, alloc-said}
 use Rattle.node_abi.proofs.counters_calls.selvaigo_alloc_idx.Statement.{statement}
 use Rattle.node_abi.proofs.counters_calls.selvaigo_alloc_idx.Tie as tie
 

@@ -1,6 +1,6 @@
 -- `node_abi::counters_calls::selvaigo_apply_batch` meets its contract: the call under it, over words. Assumes nothing.
 use borrow.Author.Needs.{needs}
-use Rattle.node_abi.specs.CountersSaidLaws.{batch-broken, batch-said}
+use Rattle.word_calls.specs.CountersSaidLaws.{batch-broken, batch-said}
 use Rattle.node_abi.proofs.counters_calls.selvaigo_apply_batch.Statement.{statement}
 use Rattle.node_abi.proofs.counters_calls.selvaigo_apply_batch.Tie as tie
 

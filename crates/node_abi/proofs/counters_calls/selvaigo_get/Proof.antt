@@ -1,6 +1,6 @@
 -- `node_abi::counters_calls::selvaigo_get` meets its contract: the call under it, over words. Assumes nothing.
 use borrow.Author.Needs.{needs}
-use Rattle.node_abi.specs.CountersSaidLaws.{get-broken, get-said}
+use Rattle.word_calls.specs.CountersSaidLaws.{get-broken, get-said}
 use Rattle.node_abi.proofs.counters_calls.selvaigo_get.Statement.{statement}
 use Rattle.node_abi.proofs.counters_calls.selvaigo_get.Tie as tie
 

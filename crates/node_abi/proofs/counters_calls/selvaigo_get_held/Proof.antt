@@ -1,6 +1,6 @@
 -- `node_abi::counters_calls::selvaigo_get_held` meets its contract: the call under it where a state is held, over words. Assumes nothing.
 use borrow.Author.Needs.{needs}
-use Rattle.node_abi.specs.CountersSaidLaws.{get-said}
+use Rattle.word_calls.specs.CountersSaidLaws.{get-said}
 use Rattle.node_abi.proofs.counters_calls.selvaigo_get_held.Statement.{statement}
 use Rattle.node_abi.proofs.counters_calls.selvaigo_get_held.Tie as tie
 

@@ -1,6 +1,6 @@
 -- `node_abi::counters_calls::selvaigo_new` meets its contract: the call under it, over words. Assumes nothing.
 use borrow.Author.Needs.{needs}
-use Rattle.node_abi.specs.CountersSaidLaws.{new-broken, new-said}
+use Rattle.word_calls.specs.CountersSaidLaws.{new-broken, new-said}
 use Rattle.node_abi.proofs.counters_calls.selvaigo_new.Statement.{statement}
 use Rattle.node_abi.proofs.counters_calls.selvaigo_new.Tie as tie
 

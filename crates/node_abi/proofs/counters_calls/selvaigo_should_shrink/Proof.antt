@@ -1,6 +1,6 @@
 -- `node_abi::counters_calls::selvaigo_should_shrink` meets its contract: a yes is 1, a no 0. Assumes nothing.
 use mathlib.Core.Path.{ap}
-use Rattle.node_abi.specs.CountersSaid.{bit}
+use Rattle.state_words.specs.Words.{bit}
 use borrow.Author.Needs.{needs}
 use Rattle.node_abi.proofs.counters_calls.selvaigo_should_shrink.Statement.{statement}
 use Rattle.node_abi.proofs.counters_calls.selvaigo_should_shrink.Tie as tie

@@ -1,6 +1,6 @@
 -- `node_abi::counters_calls::selvaigo_shrink_if_needed` meets its contract: the call under it, over words. Assumes nothing.
 use borrow.Author.Needs.{needs}
-use Rattle.node_abi.specs.CountersSaidLaws.{shrink-broken, shrink-said}
+use Rattle.word_calls.specs.CountersSaidLaws.{shrink-broken, shrink-said}
 use Rattle.node_abi.proofs.counters_calls.selvaigo_shrink_if_needed.Statement.{statement}
 use Rattle.node_abi.proofs.counters_calls.selvaigo_shrink_if_needed.Tie as tie
 

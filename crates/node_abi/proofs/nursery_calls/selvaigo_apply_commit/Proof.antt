@@ -3,8 +3,8 @@ use native.Mathlib.Omega.{arith}
 use lib.ListN.{length}
 use borrow.Author.Tests.{eq-eqb, ne-eqb}
 use Rattle.state_words.specs.Words.{overNursery}
-use Rattle.node_abi.specs.NurserySaid.{commitSaid}
-use Rattle.node_abi.specs.NurserySaidLaws.{committed-said}
+use Rattle.word_calls.specs.NurserySaid.{commitSaid}
+use Rattle.word_calls.specs.NurserySaidLaws.{committed-said}
 use borrow.Author.Needs.{needs}
 use Rattle.node_abi.proofs.nursery_calls.selvaigo_apply_commit.Statement.{statement}
 use Rattle.node_abi.proofs.nursery_calls.selvaigo_apply_commit.Tie as tie

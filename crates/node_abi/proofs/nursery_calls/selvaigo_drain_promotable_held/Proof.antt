@@ -2,8 +2,8 @@
 use lib.ListN.{length}
 use borrow.Author.Tests.{eq-eqb}
 use Rattle.state_words.specs.Words.{overNursery}
-use Rattle.node_abi.specs.NurserySaid.{drainSaid}
-use Rattle.node_abi.specs.NurserySaidLaws.{drained-said}
+use Rattle.word_calls.specs.NurserySaid.{drainSaid}
+use Rattle.word_calls.specs.NurserySaidLaws.{drained-said}
 use borrow.Author.Needs.{needs}
 use Rattle.node_abi.proofs.nursery_calls.selvaigo_drain_promotable_held.Statement.{
   statement,

@@ -3,8 +3,8 @@ use native.Mathlib.Omega.{arith}
 use lib.ListN.{length}
 use borrow.Author.Tests.{eq-eqb, ne-eqb}
 use Rattle.state_words.specs.Words.{overNursery}
-use Rattle.node_abi.specs.NurserySaid.{idxSaid}
-use Rattle.node_abi.specs.NurserySaidLaws.{found-said}
+use Rattle.word_calls.specs.NurserySaid.{idxSaid}
+use Rattle.word_calls.specs.NurserySaidLaws.{found-said}
 use borrow.Author.Needs.{needs}
 use Rattle.node_abi.proofs.nursery_calls.selvaigo_get_idx.Statement.{statement}
 use Rattle.node_abi.proofs.nursery_calls.selvaigo_get_idx.Tie as tie

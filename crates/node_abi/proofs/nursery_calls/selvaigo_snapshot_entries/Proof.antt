@@ -3,8 +3,8 @@ use native.Mathlib.Omega.{arith}
 use lib.ListN.{length}
 use borrow.Author.Tests.{eq-eqb, ne-eqb}
 use Rattle.state_words.specs.Words.{overNursery}
-use Rattle.node_abi.specs.NurserySaid.{listingSaid}
-use Rattle.node_abi.specs.NurserySaidLaws.{written-said}
+use Rattle.word_calls.specs.NurserySaid.{listingSaid}
+use Rattle.word_calls.specs.NurserySaidLaws.{written-said}
 use borrow.Author.Needs.{needs}
 use Rattle.node_abi.proofs.nursery_calls.selvaigo_snapshot_entries.Statement.{statement}
 use Rattle.node_abi.proofs.nursery_calls.selvaigo_snapshot_entries.Tie as tie

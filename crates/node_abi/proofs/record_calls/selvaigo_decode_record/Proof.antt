@@ -1,6 +1,6 @@
 -- `node_abi::selvaigo_decode_record` meets its contract: the call under it, over words. Assumes nothing.
-use Rattle.node_abi.specs.RecordSaid.{decodeSaid}
-use Rattle.node_abi.specs.RecordSaidLaws.{decoded-said}
+use Rattle.word_calls.specs.RecordSaid.{decodeSaid}
+use Rattle.word_calls.specs.RecordSaidLaws.{decoded-said}
 use borrow.Author.Needs.{needs}
 use Rattle.node_abi.proofs.record_calls.selvaigo_decode_record.Statement.{statement}
 use Rattle.node_abi.proofs.record_calls.selvaigo_decode_record.Tie as tie

@@ -1,6 +1,6 @@
 -- `node_abi::selvaigo_encode_record` meets its contract: the call under it, over words. Assumes nothing.
-use Rattle.node_abi.specs.RecordSaid.{encodeSaid}
-use Rattle.node_abi.specs.RecordSaidLaws.{encoded-said}
+use Rattle.word_calls.specs.RecordSaid.{encodeSaid}
+use Rattle.word_calls.specs.RecordSaidLaws.{encoded-said}
 use borrow.Author.Needs.{needs}
 use Rattle.node_abi.proofs.record_calls.selvaigo_encode_record.Statement.{statement}
 use Rattle.node_abi.proofs.record_calls.selvaigo_encode_record.Tie as tie

@@ -3,8 +3,8 @@ use native.Mathlib.Omega.{arith}
 use lib.ListN.{length}
 use borrow.Author.Tests.{eq-eqb, ne-eqb}
 use Rattle.state_words.specs.Words.{overNursery}
-use Rattle.node_abi.specs.RecordSaid.{journalSaid}
-use Rattle.node_abi.specs.RecordSaidLaws.{read-in-said}
+use Rattle.word_calls.specs.RecordSaid.{journalSaid}
+use Rattle.word_calls.specs.RecordSaidLaws.{read-in-said}
 use borrow.Author.Needs.{needs}
 use Rattle.node_abi.proofs.record_calls.selvaigo_read_journal.Statement.{statement}
 use Rattle.node_abi.proofs.record_calls.selvaigo_read_journal.Tie as tie

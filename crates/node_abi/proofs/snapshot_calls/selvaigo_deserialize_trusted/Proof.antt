@@ -1,6 +1,6 @@
 -- `node_abi::snapshot_calls::selvaigo_deserialize_trusted` meets its contract: the call under it, over words. Assumes nothing.
 use borrow.Author.Needs.{needs}
-use Rattle.node_abi.specs.CountersSaidLaws.{deserialize-broken, deserialize-taken, deserialize-refused}
+use Rattle.word_calls.specs.CountersSaidLaws.{deserialize-broken, deserialize-taken, deserialize-refused}
 use Rattle.node_abi.proofs.snapshot_calls.selvaigo_deserialize_trusted.Statement.{statement}
 use Rattle.node_abi.proofs.snapshot_calls.selvaigo_deserialize_trusted.Tie as tie
 

@@ -1,6 +1,6 @@
 -- `node_abi::snapshot_calls::selvaigo_serialize` meets its contract: the call under it, over words. Assumes nothing.
 use borrow.Author.Needs.{needs}
-use Rattle.node_abi.specs.CountersSaidLaws.{serialize-broken, serialize-said}
+use Rattle.word_calls.specs.CountersSaidLaws.{serialize-broken, serialize-said}
 use Rattle.node_abi.proofs.snapshot_calls.selvaigo_serialize.Statement.{statement}
 use Rattle.node_abi.proofs.snapshot_calls.selvaigo_serialize.Tie as tie
 

@@ -1,6 +1,6 @@
 -- `node_abi::snapshot_calls::selvaigo_serialize_held` meets its contract: the call under it where a state is held, over words. Assumes nothing.
 use borrow.Author.Needs.{needs}
-use Rattle.node_abi.specs.CountersSaidLaws.{serialize-said}
+use Rattle.word_calls.specs.CountersSaidLaws.{serialize-said}
 use Rattle.node_abi.proofs.snapshot_calls.selvaigo_serialize_held.Statement.{statement}
 use Rattle.node_abi.proofs.snapshot_calls.selvaigo_serialize_held.Tie as tie
 

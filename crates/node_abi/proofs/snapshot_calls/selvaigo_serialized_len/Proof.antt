@@ -1,6 +1,6 @@
 -- `node_abi::snapshot_calls::selvaigo_serialized_len` meets its contract: the call under it, over words. Assumes nothing.
 use borrow.Author.Needs.{needs}
-use Rattle.node_abi.specs.CountersSaidLaws.{length-broken, length-said}
+use Rattle.word_calls.specs.CountersSaidLaws.{length-broken, length-said}
 use Rattle.node_abi.proofs.snapshot_calls.selvaigo_serialized_len.Statement.{statement}
 use Rattle.node_abi.proofs.snapshot_calls.selvaigo_serialized_len.Tie as tie
 

@@ -4,7 +4,7 @@ use mathlib.Core.Bool.{true}
 use Rattle.counters.specs.Layout.{holds}
 use Rattle.snapshot_write.specs.CallLaws.{length-taken}
 use borrow.Author.Needs.{needs}
-use Rattle.node_abi.specs.CountersSaidLaws.{length-said}
+use Rattle.word_calls.specs.CountersSaidLaws.{length-said}
 use Rattle.node_abi.proofs.snapshot_calls.selvaigo_serialized_len_held.Statement.{statement}
 use Rattle.node_abi.proofs.snapshot_calls.selvaigo_serialized_len_held.Tie as tie
 

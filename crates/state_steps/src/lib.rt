@@ -1,0 +1,109 @@
+// What a call gives, written as words: each step writes the values and the record, and returns the answer's number.
+use base::Wrote;
+use cell_nursery::Committed;
+use cell_nursery::Data;
+use cell_nursery::Drained;
+use cell_nursery::Found;
+use counters::Applied;
+use counters::Got;
+use counters::Shrunk;
+use state_words::put_counters;
+use state_words::put_nursery;
+ghost use mathlib.Core.Path.{_≡_};
+ghost use mathlib.Core.List.{[], _∷_};
+ghost use lib.ListN.{length};
+ghost use Rattle.base.specs.Answers.{answerNumber};
+ghost use Rattle.state_words.specs.Words.{countersWords, nurseryWords, bit, decisions};
+
+// A count that was read is written, and its answer's number returned.
+pub fn put_got(got: Got, count: &mut [u64; 1]) -> u8
+    ensures { λ r. ⌜ (r ≡ answerNumber (got .answer)) × (now (count .exit) ≡ got .count .0 ∷ []) ⌝ }
+{
+    *count = [got.count.0];
+    let a = got.answer;
+    a.number()
+}
+
+// The record that a batch leaves is written, and its answer's number returned.
+pub fn put_applied(applied: Applied, state: &mut [u64]) -> u8
+    requires { ⌜ length (now state) ≡ 13 ⌝ }
+    ensures { λ r. ⌜ (r ≡ answerNumber (applied .answer)) × (now (state .exit) ≡ countersWords (applied .counters)) ⌝ }
+{
+    let c = applied.counters;
+    put_counters(state, c);
+    let a = applied.answer;
+    a.number()
+}
+
+// The nine decisions and the record after them are written, and the answer's number returned.
+pub fn put_shrunk(decided: Shrunk, state: &mut [u64], shrunk: &mut [u64; 9]) -> u8
+    requires { ⌜ length (now state) ≡ 13 ⌝ }
+    ensures { λ r. ⌜ (r ≡ answerNumber (decided .answer)) × (now (shrunk .exit) ≡ decisions (decided .alive) (decided .small)) × (now (state .exit) ≡ countersWords (decided .counters)) ⌝ }
+{
+    let s = decided.small;
+    *shrunk = [
+        decided.alive as u64,
+        s[0] as u64,
+        s[1] as u64,
+        s[2] as u64,
+        s[3] as u64,
+        s[4] as u64,
+        s[5] as u64,
+        s[6] as u64,
+        s[7] as u64,
+    ];
+    let c = decided.counters;
+    put_counters(state, c);
+    let a = decided.answer;
+    a.number()
+}
+
+// The record that a call leaves is written, and its answer's number returned.
+pub fn put_committed(committed: Committed, nursery: &mut [u64]) -> u8
+    requires { ⌜ length (now nursery) ≡ 3 ⌝ }
+    ensures { λ r. ⌜ (r ≡ answerNumber (committed .answer)) × (now (nursery .exit) ≡ nurseryWords (committed .nursery)) ⌝ }
+{
+    let after = committed.nursery;
+    put_nursery(nursery, after);
+    let a = committed.answer;
+    a.number()
+}
+
+// The record after draining and how many bytes were handed out are written, and the answer's number returned.
+pub fn put_drained(drained: Drained, nursery: &mut [u64], len: &mut [u64; 1]) -> u8
+    requires { ⌜ length (now nursery) ≡ 3 ⌝ }
+    ensures { λ r. ⌜ (r ≡ answerNumber (drained .answer)) × (now (len .exit) ≡ drained .len ∷ []) × (now (nursery .exit) ≡ nurseryWords (drained .nursery)) ⌝ }
+{
+    *len = [drained.len as u64];
+    let after = drained.nursery;
+    put_nursery(nursery, after);
+    let a = drained.answer;
+    a.number()
+}
+
+// Whether a hash is there and its index are written, and the answer's number returned.
+pub fn put_found(entry: Found, found: &mut [u64; 2]) -> u8
+    ensures { λ r. ⌜ (r ≡ answerNumber (entry .answer)) × (now (found .exit) ≡ bit (entry .found) ∷ entry .idx .0 ∷ []) ⌝ }
+{
+    *found = [entry.found as u64, entry.idx.0];
+    let a = entry.answer;
+    a.number()
+}
+
+// Whether a hash is there and where its cell lies are written, and the answer's number returned.
+pub fn put_data(cell: Data, found: &mut [u64; 3]) -> u8
+    ensures { λ r. ⌜ (r ≡ answerNumber (cell .answer)) × (now (found .exit) ≡ bit (cell .found) ∷ cell .place ∷ cell .len ∷ []) ⌝ }
+{
+    *found = [cell.found as u64, cell.place as u64, cell.len as u64];
+    let a = cell.answer;
+    a.number()
+}
+
+// An output's length is written, and the answer's number returned.
+pub fn put_wrote(wrote: Wrote, len: &mut [u64; 1]) -> u8
+    ensures { λ r. ⌜ (r ≡ answerNumber (wrote .answer)) × (now (len .exit) ≡ wrote .len ∷ []) ⌝ }
+{
+    *len = [wrote.len as u64];
+    let a = wrote.answer;
+    a.number()
+}

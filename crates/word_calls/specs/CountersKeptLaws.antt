@@ -1,0 +1,164 @@
+-- Two promises of include/selvaigo.h for the calls on the counters and on their snapshots. Beside a refusal values are zeros and no slice is
+-- changed. And what the calls leave of a record and a table may be lent to the held forms, if nothing but calls has written them.
+-- Assumes nothing.
+use Prim.Native.Nat.{ℕ}
+use mathlib.Core.Path.{_≡_, refl, subst}
+use mathlib.Core.Bool.{true}
+use mathlib.Core.List.{List, [], _∷_}
+use native.Mathlib.Omega.{arith}
+use lib.ListN.{length}
+use Rattle.base.specs.Logic.{zeros}
+use Rattle.base.specs.Answers.{Outcome, refused, taken, _>>=_, orRefuse, answerOf, valueOr, answerNumber, numberOf}
+use Rattle.base.specs.Output.{put, fitting, written}
+use Rattle.base.specs.declared.Answer.{Answer}
+use Rattle.base.specs.declared.Answer.the-variants.{Taken, Refused}
+use Rattle.base.specs.declared.Refusal.{Refusal}
+use Rattle.base.specs.declared.Refusal.the-variants.{Spent, Unallocated, Repeated, OffTotal, FalseOld, TableFull, Version, TornSnapshot, BadBitmap, BadLarge, TierClash, Present, NurseryFull, TooLong, OutputFull, ShortRecord, FarLength, Mismatch, Misfit, Broken}
+use Rattle.counters.specs.declared.Counters.{Counters}
+use Rattle.counters.specs.Counts.{State, fresh, allocate, get}
+use Rattle.counters.specs.Batch.{applyBatch}
+use Rattle.counters.specs.Maintenance.{standard}
+use Rattle.counters.specs.Layout.{roomOf, recordOf, holds, batchOf}
+use Rattle.counters.specs.Calls.{onState, laid, laidOut, newCall, allocated, allocCall, getCall, batchCall, decided, shrinkCall}
+use Rattle.counters.specs.CallLaws.{new-holds, alloc-holds, batch-holds, shrink-holds}
+use Rattle.snapshot.specs.Write.{snapshotBytes}
+use Rattle.snapshot.specs.Read.{readSnapshot}
+use Rattle.snapshot.specs.Calls.{serializeCall, deserializeCall}
+use Rattle.snapshot_write.specs.Calls.{lengthCall}
+use Rattle.snapshot_laws.specs.CallLaws.{deserialize-taken-holds}
+use Rattle.state_words.specs.Words.{countersOf, countersWords, oneWord, writtenSaid, Unchanged, left}
+use Rattle.state_words.specs.WordLaws.{counters-words-back, length-counters-words, over-counters, each-counters-way}
+use Rattle.word_calls.specs.CountersSaid.{wordsAfter, changedSaid, allocatedSaid, gotSaid, shrunkSaid, lengthFound, readSaid, newSaid, allocSaid, getSaid, batchSaid, shrinkSaid, lengthSaid, serializeSaid, deserializeSaid}
+
+-- ---- refusals
+
+module _ (w : List ℕ) where
+  pub new-unchanged : (next : ℕ) (t : List ℕ) → Unchanged [] (w ∷ t ∷ []) (newSaid next w t)
+  unfolding newSaid changedSaid newCall laid
+  new-unchanged next t = each-counters-way w _ (Unchanged [] (w ∷ t ∷ [])) _ (λ e n. absurd (n refl)) (λ n. (refl, refl))
+
+  pub alloc-unchanged : Unchanged (oneWord 0) (w ∷ []) (allocSaid w)
+  unfolding allocSaid allocatedSaid allocCall allocated
+  alloc-unchanged = each-counters-way w _ (Unchanged (oneWord 0) (w ∷ [])) _ (λ e. go e (allocate (countersOf w .«next_idx» .0))) (λ n. (refl, refl))
+    where
+      go : length w ≡ 13 → (o : Outcome ℕ) → Unchanged (oneWord 0) (w ∷ []) (allocatedSaid (allocated (countersOf w) o))
+      go e (refused r) n = (refl, rw (counters-words-back w e))
+      go e (taken k) n = absurd (n refl)
+
+  module _ (t : List ℕ) where
+    pub get-unchanged : (i : ℕ) → Unchanged (oneWord 0) [] (getSaid w t i)
+    unfolding getSaid gotSaid getCall
+    get-unchanged i = each-counters-way w _ (Unchanged (oneWord 0) []) _ (λ e. go (onState (countersOf w) t (λ s. get s i))) (λ n. (refl, refl))
+      where
+        go : (o : Outcome ℕ) → Unchanged (oneWord 0) [] (gotSaid (record { answer = answerOf o; count = record { 0 = valueOr 0 o } }))
+        go (refused r) n = (refl, refl)
+        go (taken k) n = absurd (n refl)
+
+    pub batch-unchanged : (b : List ℕ) → Unchanged [] (w ∷ t ∷ []) (batchSaid w t b)
+    unfolding batchSaid changedSaid batchCall laidOut laid
+    batch-unchanged b = each-counters-way w _ (Unchanged [] (w ∷ t ∷ [])) _ (λ e. go e (onState (countersOf w) t (λ s. orRefuse Broken (batchOf b) >>= applyBatch (roomOf t) s))) (λ n. (refl, refl))
+      where
+        go : length w ≡ 13 → (o : Outcome State) → Unchanged [] (w ∷ t ∷ []) (changedSaid (laidOut (countersOf w) t o))
+        go e (refused r) n = (refl, rw (counters-words-back w e))
+        go e (taken s) n = absurd (n refl)
+
+    pub shrink-unchanged : (saved : ℕ) → Unchanged (zeros 9 ∷ []) (w ∷ []) (shrinkSaid w t saved)
+    unfolding shrinkSaid shrunkSaid shrinkCall decided
+    shrink-unchanged saved = each-counters-way w _ (Unchanged (zeros 9 ∷ []) (w ∷ [])) _ (λ e. go e (onState (countersOf w) t taken)) (λ n. (refl, refl))
+      where
+        go : length w ≡ 13 → (o : Outcome State) → Unchanged (zeros 9 ∷ []) (w ∷ []) (shrunkSaid (decided standard saved (countersOf w) o))
+        go e (refused r) n = (refl, rw (counters-words-back w e))
+        go e (taken s) n = absurd (n refl)
+
+    pub length-unchanged : Unchanged (oneWord 0) [] (lengthSaid w t)
+    unfolding lengthSaid lengthFound lengthCall
+    length-unchanged = each-counters-way w _ (Unchanged (oneWord 0) []) _ (λ e. go (onState (countersOf w) t (λ s. taken (length (snapshotBytes s))))) (λ n. (refl, refl))
+      where
+        go : (o : Outcome ℕ) → Unchanged (oneWord 0) [] (lengthFound (record { answer = answerOf o; len = valueOr 0 o }))
+        go (refused r) n = (refl, refl)
+        go (taken k) n = absurd (n refl)
+
+    pub serialize-unchanged : (out : List ℕ) → Unchanged (oneWord 0) (out ∷ []) (serializeSaid w t out)
+    unfolding serializeSaid writtenSaid serializeCall written put
+    serialize-unchanged out = each-counters-way w _ (Unchanged (oneWord 0) (out ∷ [])) _ (λ e. go (fitting (length out) (onState (countersOf w) t (λ s. taken (snapshotBytes s))))) (λ n. (refl, refl))
+      where
+        go : (o : Outcome (List ℕ)) → Unchanged (oneWord 0) (out ∷ []) (writtenSaid (put out o))
+        go (refused r) n = (refl, refl)
+        go (taken bs) n = absurd (n refl)
+
+    pub deserialize-unchanged : (bs : List ℕ) → Unchanged [] (w ∷ t ∷ []) (deserializeSaid bs w t)
+    unfolding deserializeSaid readSaid deserializeCall laidOut laid
+    deserialize-unchanged bs = each-counters-way w _ (Unchanged [] (w ∷ t ∷ [])) _ (λ e. go (readSnapshot (standard .base) (roomOf t) bs)) (λ n. (refl, refl))
+      where
+        go : (o : Outcome State) → Unchanged [] (w ∷ t ∷ []) (readSaid w (laidOut (recordOf (fresh 0 0)) t o))
+        go (refused r) n = (refl, refl)
+        go (taken s) n = absurd (n refl)
+
+-- ---- what is left may be lent to the held forms
+
+-- what the held forms require
+abbrev pub Held : List ℕ → List ℕ → Type 0
+Held w t = (length w ≡ 13) × (holds (countersOf w) t ≡ true)
+
+-- a record's words hold what it holds
+words-held : (c : Counters) (t : List ℕ) → holds c t ≡ true → Held (countersWords c) t
+unfolding holds
+words-held c t h = (length-counters-words c, h)
+
+-- no refusal has the number 0
+number-not-zero : (r : Refusal) → numberOf r ≡ 0 → ⊥
+number-not-zero Spent e = omega arith
+number-not-zero Unallocated e = omega arith
+number-not-zero Repeated e = omega arith
+number-not-zero OffTotal e = omega arith
+number-not-zero FalseOld e = omega arith
+number-not-zero TableFull e = omega arith
+number-not-zero Version e = omega arith
+number-not-zero TornSnapshot e = omega arith
+number-not-zero BadBitmap e = omega arith
+number-not-zero BadLarge e = omega arith
+number-not-zero TierClash e = omega arith
+number-not-zero Present e = omega arith
+number-not-zero NurseryFull e = omega arith
+number-not-zero TooLong e = omega arith
+number-not-zero OutputFull e = omega arith
+number-not-zero ShortRecord e = omega arith
+number-not-zero FarLength e = omega arith
+number-not-zero Mismatch e = omega arith
+number-not-zero Misfit e = omega arith
+number-not-zero Broken e = omega arith
+
+module _ (w t : List ℕ) where
+  pub new-held : (next : ℕ) → length w ≡ 13 → Held (left 0 (newSaid next w t)) (left 1 (newSaid next w t))
+  unfolding newSaid changedSaid
+  new-held next e =
+      let x = newCall (standard .base) (record { 0 = next }) t in
+      subst (λ s. Held (left 0 s) (left 1 s)) (over-counters w _ _ e) (words-held (x .result .counters) (x .table) (new-holds (standard .base) (record { 0 = next }) t))
+
+  -- whatever the answer
+  module _ (h : Held w t) where
+    pub alloc-held : Held (left 0 (allocSaid w)) t
+    unfolding allocSaid allocatedSaid
+    alloc-held = subst (λ s. Held (left 0 s) t) (over-counters w _ _ (h .0)) (words-held (allocCall (countersOf w) .counters) t (alloc-holds (countersOf w) t (h .1)))
+
+    pub batch-held : (b : List ℕ) → Held (left 0 (batchSaid w t b)) (left 1 (batchSaid w t b))
+    unfolding batchSaid changedSaid
+    batch-held b =
+        let x = batchCall (countersOf w) t b in
+        subst (λ s. Held (left 0 s) (left 1 s)) (over-counters w _ _ (h .0)) (words-held (x .result .counters) (x .table) (batch-holds (countersOf w) t b (h .1)))
+
+    pub shrink-held : (saved : ℕ) → Held (left 0 (shrinkSaid w t saved)) t
+    unfolding shrinkSaid shrunkSaid
+    shrink-held saved =
+        subst (λ s. Held (left 0 s) t) (over-counters w _ _ (h .0)) (words-held (shrinkCall standard (countersOf w) t saved .counters) t (shrink-holds standard (countersOf w) t saved (h .1)))
+
+  pub deserialize-held : (bs : List ℕ) → length w ≡ 13 → deserializeSaid bs w t .answer ≡ 0 → Held (left 0 (deserializeSaid bs w t)) (left 1 (deserializeSaid bs w t))
+  unfolding deserializeSaid readSaid
+  deserialize-held bs e =
+      let x = deserializeCall (standard .base) bs t in
+      subst (λ s. s .answer ≡ 0 → Held (left 0 s) (left 1 s)) (over-counters w _ (λ _. readSaid w x) e)
+      (go (x .result .answer) (x .result .counters) (x .table) (deserialize-taken-holds (standard .base) bs t))
+    where
+      go : (a : Answer) (c : Counters) (u : List ℕ) → (a ≡ Taken → holds c u ≡ true) → answerNumber a ≡ 0 → Held (wordsAfter w a c) u
+      go Taken c u h n = words-held c u (h refl)
+      go (Refused r) c u h n = absurd (number-not-zero r n)

@@ -1,0 +1,84 @@
+-- What the calls on the counters and on their snapshots say where the state record is lent as words: the call under each, by the
+-- record that the words spell. A record of another length is 20, with values of 0 and nothing changed.
+-- Assumes nothing.
+use Prim.Native.Nat.{ℕ}
+use mathlib.Core.List.{List, [], _∷_}
+use Rattle.base.specs.Logic.{zeros}
+use Rattle.base.specs.Answers.{answerNumber}
+use Rattle.base.specs.declared.Answer.{Answer}
+use Rattle.base.specs.declared.Answer.the-variants.{Taken, Refused}
+use Rattle.base.specs.declared.Wrote.{Wrote}
+use Rattle.counters.specs.declared.Counters.{Counters}
+use Rattle.counters.specs.declared.Allocated.{Allocated}
+use Rattle.counters.specs.declared.Got.{Got}
+use Rattle.counters.specs.declared.Shrunk.{Shrunk}
+use Rattle.counters.specs.Maintenance.{standard}
+use Rattle.counters.specs.Calls.{Changed, newCall, allocCall, getCall, batchCall, shrinkCall}
+use Rattle.snapshot.specs.Calls.{serializeCall, deserializeCall}
+use Rattle.snapshot_write.specs.Calls.{lengthCall}
+use Rattle.state_words.specs.Words.{countersWords, decisions, Said, said, oneWord, writtenSaid, brokenSaid, overCounters}
+
+-- ---- what the calls under them give, in words
+
+-- a new state: its record's words and its table are written
+unfoldable pub changedSaid : Changed → Said
+changedSaid x = said (answerNumber (x .result .answer)) [] (countersWords (x .result .counters) ∷ x .table ∷ [])
+
+-- an index handed out: the value is the index, and the record's words are written
+unfoldable pub allocatedSaid : Allocated → Said
+allocatedSaid x = said (answerNumber (x .answer)) (oneWord (x .idx .0)) (countersWords (x .counters) ∷ [])
+
+-- a count that was read
+unfoldable pub gotSaid : Got → Said
+gotSaid x = said (answerNumber (x .answer)) (oneWord (x .count .0)) []
+
+-- what is to be shrunk: the value is the decisions, and the record's words are written
+unfoldable pub shrunkSaid : Shrunk → Said
+shrunkSaid x = said (answerNumber (x .answer)) (decisions (x .alive) (x .small) ∷ []) (countersWords (x .counters) ∷ [])
+
+-- a length that was found
+unfoldable pub lengthFound : Wrote → Said
+lengthFound x = said (answerNumber (x .answer)) (oneWord (x .len)) []
+
+-- the words of a record after a call that makes one: beside a refusal those that were there
+abbrev pub wordsAfter : List ℕ → Answer → Counters → List ℕ
+wordsAfter w Taken c = countersWords c
+wordsAfter w (Refused r) c = w
+
+-- a state that was read in: its record's words are written where it was taken, and its table
+unfoldable pub readSaid : List ℕ → Changed → Said
+readSaid w x = said (answerNumber (x .result .answer)) [] (wordsAfter w (x .result .answer) (x .result .counters) ∷ x .table ∷ [])
+
+-- ---- the calls, where w is the record's words and t the table of counts
+
+-- fresh counters at a next index, whatever the words and the table were
+unfoldable pub newSaid : ℕ → List ℕ → List ℕ → Said
+newSaid next w t = overCounters w (brokenSaid [] (w ∷ t ∷ [])) (λ _. changedSaid (newCall (standard .base) (record { 0 = next }) t))
+
+-- the next index handed out
+unfoldable pub allocSaid : List ℕ → Said
+allocSaid w = overCounters w (brokenSaid (oneWord 0) (w ∷ [])) (λ c. allocatedSaid (allocCall c))
+
+-- the count at index i
+unfoldable pub getSaid : List ℕ → List ℕ → ℕ → Said
+getSaid w t i = overCounters w (brokenSaid (oneWord 0) []) (λ c. gotSaid (getCall c t (record { 0 = i })))
+
+-- the batch of the words b
+unfoldable pub batchSaid : List ℕ → List ℕ → List ℕ → Said
+batchSaid w t b = overCounters w (brokenSaid [] (w ∷ t ∷ [])) (λ c. changedSaid (batchCall c t b))
+
+-- maintenance, where the alive shrink saves so many bytes
+unfoldable pub shrinkSaid : List ℕ → List ℕ → ℕ → Said
+shrinkSaid w t saved = overCounters w (brokenSaid (zeros 9 ∷ []) (w ∷ [])) (λ c. shrunkSaid (shrinkCall standard c t saved))
+
+-- how many bytes the snapshot takes
+unfoldable pub lengthSaid : List ℕ → List ℕ → Said
+lengthSaid w t = overCounters w (brokenSaid (oneWord 0) []) (λ c. lengthFound (lengthCall c t))
+
+-- the snapshot into an output
+unfoldable pub serializeSaid : List ℕ → List ℕ → List ℕ → Said
+serializeSaid w t out = overCounters w (brokenSaid (oneWord 0) (out ∷ [])) (λ c. writtenSaid (serializeCall c t out))
+
+-- the counters of the snapshot bs, whatever the words and the table were
+unfoldable pub deserializeSaid : List ℕ → List ℕ → List ℕ → Said
+deserializeSaid bs w t = overCounters w (brokenSaid [] (w ∷ t ∷ [])) (λ _. readSaid w (deserializeCall (standard .base) bs t))

@@ -1,0 +1,43 @@
+-- What the calls on records and journals give over words, as include/selvaigo.h declares them.
+-- Assumes nothing.
+use Prim.Native.Nat.{ℕ}
+use mathlib.Core.List.{List, [], _∷_}
+use Rattle.base.specs.Answers.{answerNumber}
+use Rattle.blake3.specs.Spec.{hash}
+use Rattle.format.specs.declared.RecordStats.{RecordStats}
+use Rattle.format.specs.declared.Decoded.{Decoded}
+use Rattle.format.specs.Calls.{EncodedOut, encodeCall, decodeCall}
+use Rattle.journal.specs.Journal.{ReadIn, readCall}
+use Rattle.state_words.specs.Words.{nurseryWords, Said, said, brokenSaid, overNursery}
+use Rattle.word_calls.specs.NurserySaid.{flag}
+
+-- the figures of a record
+abbrev pub statWords : RecordStats → List ℕ
+statWords s = s .«payload_bytes» ∷ s .«metadata_bytes» ∷ s .«cell_bytes» ∷ s .«insert_ops» ∷ s .«remove_ops» ∷ []
+
+-- an encoded record's length and figures, and the output
+unfoldable pub encodedSaid : EncodedOut → Said
+encodedSaid x = said (answerNumber (x .result .answer)) ((x .result .len ∷ statWords (x .result .stats)) ∷ []) (x .out ∷ [])
+
+-- the record of a delta into a lent output
+unfoldable pub encodeSaid : ℕ → ℕ → ℕ → ℕ → List ℕ → List ℕ → Said
+encodeSaid id wide inserts removes items out = encodedSaid (encodeCall hash id (flag wide) inserts removes items out)
+
+-- a decoded record's id, the place and the length of its items, and its figures; and its hash
+unfoldable pub decodedSaid : Decoded → Said
+decodedSaid d = said (answerNumber (d .answer)) ((d .id ∷ d .«items_at» ∷ d .«items_len» ∷ statWords (d .stats)) ∷ d .hash ∷ []) []
+
+-- the record that bytes start with
+unfoldable pub decodeSaid : List ℕ → Said
+decodeSaid bs = decodedSaid (decodeCall hash bs)
+
+-- how reading a journal ended, the records applied and the place after them; the nursery's words, and its tables
+unfoldable pub readInSaid : ReadIn → Said
+readInSaid x =
+    said (answerNumber (x .result .ended)) ((x .result .applied ∷ x .result .place ∷ []) ∷ [])
+    (nurseryWords (x .result .nursery) ∷ x .entries ∷ x .waiting ∷ x .cells ∷ [])
+
+-- a journal, read into an empty nursery, whatever was in the tables
+unfoldable pub journalSaid : List ℕ → List ℕ → List ℕ → List ℕ → List ℕ → Said
+journalSaid bs w es ws cs =
+    overNursery w (brokenSaid ((0 ∷ 0 ∷ []) ∷ []) (w ∷ es ∷ ws ∷ cs ∷ [])) (λ r. readInSaid (readCall hash bs es ws cs))
