@@ -1,22 +1,32 @@
 -- The order of a record's refusals, the bound of each, and the order of a record's fields, fixed by evaluation.
 -- Of two neighbours in an order: the smallest input that meets both conditions, and the number that is given.
 -- (Under 40 bytes and 17 never meet: the stated length is there only from 40 bytes on.)
--- In the place of the hash stands one that is quick to evaluate: the first 32 bytes of what it covers.
+-- In the place of the hash stands one that is quick to evaluate: the first 32 bytes of what it covers. For the same reason a long cell
+-- is any bytes of its length.
 -- Assumes nothing.
-use mathlib.Core.Path.{_≡_, refl}
-use Prim.Native.Nat.{ℕ, _-_, _^_}
+use mathlib.Core.Path.{_≡_, refl, ap, _∙_}
+use Prim.Native.Nat.{ℕ, _-_, _^_, _<_, zero-le, suc-le-suc}
+use native.Mathlib.Omega.{arith}
 use mathlib.Core.Bool.{true, false}
-use mathlib.Core.List.{List, [], _∷_, _++_}
-use lib.ListN.{length, take, drop, replicate}
+use mathlib.Core.Option.{Option, none as nothing, some}
+use mathlib.Core.List.{List, [], _∷_, _++_, append-assoc}
+use lib.ListN.{length, take, drop, replicate, drop-of-length-le}
+use lib.Seq.{take-all}
+use lib.Dec.{ltb}
+use borrow.Author.Tests.{le-leb, lt-ltb, ltb-true}
 use Rattle.base.specs.Logic.{zeros}
-use Rattle.base.specs.Bytes.{le32, le64}
-use Rattle.base.specs.Answers.{answerNumber}
+use Rattle.base.specs.Bytes.{le32, le64, cut, readList}
+use Rattle.base.specs.Laws.{readLe-append}
+use Rattle.base.specs.Answers.{answerNumber, taken, orRefuse, refuseIf, _>>=_, _>>_}
 use Rattle.base.specs.declared.Answer.the-variants.{Taken, Refused}
-use Rattle.base.specs.declared.Refusal.the-variants.{OutputFull, Misfit}
-use Rattle.cell_nursery.specs.Entries.{Entry}
+use Rattle.base.specs.declared.Refusal.the-variants.{OutputFull, Misfit, Broken}
+use Rattle.cell_nursery.specs.Entries.{Entry, hashBytes}
+use Rattle.cell_nursery.specs.Items.{Delta, readHash, readInsert, deltaOf}
+use Rattle.cell_nursery.specs.Delta.{tooLong}
+use Rattle.cell_nursery.specs.ItemLaws.{readHash-append}
 use Rattle.format.specs.declared.RecordStats.{RecordStats}
-use Rattle.format.specs.Record.{recordBytes}
-use Rattle.format.specs.Calls.{EncodedOut, encodeCall, decodeCall}
+use Rattle.format.specs.Record.{recordBytes, encode}
+use Rattle.format.specs.Calls.{EncodedOut, encodedOut, encodeCall, decodeCall}
 use Rattle.format.specs.Open.{evaluation}
 
 -- the stand-in for the hash
@@ -45,9 +55,12 @@ none = recordOf (payload 5 0 0 [])
 abbrev encodedTo : List ℕ → ℕ → ℕ → List ℕ → EncodedOut
 encodedTo out is rs items = encodeCall firstBytes 5 false is rs items out
 
--- the items of one insert with a cell of zeros, its length in four bytes
-abbrev wideInsert : ℕ → List ℕ
-wideInsert len = zeros 44 ++ le32 len ++ zeros len
+-- an insert with a given cell, all else 0, and its items with the length in four bytes
+abbrev holding : List ℕ → Entry
+holding c = record { hash = 0; idx = 0; born = 0; cell = c }
+
+abbrev wideInsert : List ℕ → List ℕ
+wideInsert c = hashBytes 0 ++ le64 0 ++ le32 0 ++ le32 (length c) ++ c
 
 abbrev encodedWide : ℕ → List ℕ → ℕ
 encodedWide is items = answerNumber (encodeCall firstBytes 5 true is 0 items [] .result .answer)
@@ -66,9 +79,9 @@ pub record RefusalOrder : Type 0 where
   eighteen-before-nineteen : decoded (zeros 32 ++ le64 1 ++ 0 ∷ []) ≡ 18
   -- encoding: 14, 15
   -- a cell of 65,536 bytes, and no output
-  fourteen-before-fifteen : encodedWide 1 (wideInsert 65536) ≡ 14
+  fourteen-before-fifteen : (c : List ℕ) → length c ≡ 65536 → encodedWide 1 (wideInsert c) ≡ 14
   -- items that run past their bytes are no delta, also where a cell is too long
-  broken-before-fourteen : encodedWide 2 (wideInsert 65536) ≡ 20
+  broken-before-fourteen : (c : List ℕ) → length c ≡ 65536 → encodedWide 2 (wideInsert c) ≡ 20
 
 pub record RefusalBounds : Type 0 where
   -- 16: 39 bytes, and 40 bytes of a length of 1
@@ -99,7 +112,7 @@ pub record RefusalBounds : Type 0 where
   -- items that run past the stated length, where the bytes go on
   run-past : decoded (recordOf (payload 0 0 1 []) ++ zeros 32) ≡ 19
   -- 14: not for a cell of 65,535 bytes
-  long-cell : encodedWide 1 (wideInsert 65535) ≡ 15
+  long-cell : (c : List ℕ) → length c ≡ 65535 → encodedWide 1 (wideInsert c) ≡ 15
   -- 15: an output one byte too short, which isn't touched, and one with a byte beyond the answer
   output-short : encodedTo (replicate 55 9) 0 0 []
       ≡ record { result = record { answer = Refused OutputFull; len = 0; stats = stats 0 0 0 0 0 }; out = replicate 55 9 }
@@ -135,6 +148,56 @@ pub record Fields : Type 0 where
   empty-length : length (recordBytes firstBytes 0 (record { inserts = []; removes = [] })) ≡ 56
   insert-length : length (recordBytes firstBytes 0 (record { inserts = sample ∷ []; removes = [] })) ≡ 105
 
+-- ---- a long cell is read back
+insert-read : (c : List ℕ) → length c < 2 ^ 32 → readInsert 4 (wideInsert c) ≡ some (holding c, [])
+unfolding readInsert cut
+insert-read c k =
+    simp append-assoc
+    (rw (
+      readHash-append 0 (le64 0 ++ (le32 0 ++ (le32 (length c) ++ c))) (ltb-true 0 (2 ^ 256) refl),
+      readLe-append 8 0 (le32 0 ++ (le32 (length c) ++ c)) (omega arith),
+      readLe-append 4 0 (le32 (length c) ++ c) (omega arith),
+      readLe-append 4 (length c) c (omega arith),
+      le-leb (length c) (length c) (omega arith),
+      take-all (length c) c (omega arith),
+      drop-of-length-le c {i = length c} (omega arith),
+    ))
+
+-- one insert is there, and two are not
+one-read : (c : List ℕ) → length c < 2 ^ 32 → deltaOf 4 1 0 (wideInsert c) ≡ some (record { inserts = holding c ∷ []; removes = [] })
+unfolding deltaOf readList
+one-read c k = rw (insert-read c k)
+
+two-read : (c : List ℕ) → length c < 2 ^ 32 → deltaOf 4 2 0 (wideInsert c) ≡ nothing
+unfolding deltaOf readList readInsert readHash cut
+two-read c k = rw (insert-read c k)
+
+-- the number by what was read
+abbrev numberFor : Option Delta → ℕ
+numberFor d =
+    answerNumber (encodedOut [] (do
+      x ← orRefuse Broken d
+      e ← encode firstBytes 5 x
+      refuseIf (ltb 0 (length (e .bytes))) OutputFull
+      taken e) .result .answer)
+
+as-read : (n : ℕ) (c : List ℕ) {d : Option Delta} → deltaOf 4 n 0 (wideInsert c) ≡ d → encodedWide n (wideInsert c) ≡ numberFor d
+unfolding encodeCall
+as-read n c e = ap numberFor e
+
+-- a record has bytes, so it is refused an empty output
+in-bounds : (c : List ℕ) → length c ≡ 65535 → tooLong (record { inserts = holding c ∷ []; removes = [] }) ≡ false
+unfolding evaluation
+in-bounds c h = rw h refl
+
+has-bytes : (c : List ℕ) → 0 < length (recordBytes firstBytes 5 (record { inserts = holding c ∷ []; removes = [] }))
+unfolding evaluation
+has-bytes c = suc-le-suc zero-le
+
+no-room : (c : List ℕ) → length c ≡ 65535 → numberFor (some (record { inserts = holding c ∷ []; removes = [] })) ≡ 15
+unfolding encode encodedOut
+no-room c h = rw (in-bounds c h, lt-ltb 0 (length (recordBytes firstBytes 5 (record { inserts = holding c ∷ []; removes = [] }))) (has-bytes c)) refl
+
 pub refusal-order : RefusalOrder
 unfolding evaluation
 refusal-order =
@@ -142,8 +205,8 @@ refusal-order =
       seventeen-before-sixteen = refl;
       sixteen-before-eighteen = refl;
       eighteen-before-nineteen = refl;
-      fourteen-before-fifteen = refl;
-      broken-before-fourteen = refl;
+      fourteen-before-fifteen = λ c h. as-read 1 c (one-read c (omega (arith, h))) ∙ rw h refl;
+      broken-before-fourteen = λ c h. as-read 2 c (two-read c (omega (arith, h)));
     }
 
 pub refusal-bounds : RefusalBounds
@@ -170,7 +233,7 @@ refusal-bounds =
       remove-short = refl;
       remove-whole = refl;
       run-past = refl;
-      long-cell = refl;
+      long-cell = λ c h. as-read 1 c (one-read c (omega (arith, h))) ∙ no-room c h;
       output-short = refl;
       output-long = refl;
       items-short = refl;
