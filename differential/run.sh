@@ -6,15 +6,15 @@
 #   TYCHO_SRC=DIR run.sh --replay FILE           the steps of a file
 #   TYCHO_SRC=DIR run.sh --sample                writes the list of crates/original_answers anew
 #
-# TYCHO_SRC is the folder that holds core/src/storage/shard_state. The port's library is made by `rt staticlib node_abi`, unless SELVAIGO_LIB
-# names a folder that has libnode_abi.a. Needs Debian's packages librust-{ahash,anyhow,blake3,bytes,dashmap,hashbrown,libc,parking-lot,
+# TYCHO_SRC is the folder that holds core/src/storage/shard_state. The port's library is made by tools/staticlib.sh, unless SELVAIGO_LIB
+# names a folder that has libselvaigo.a. Needs Debian's packages librust-{ahash,anyhow,blake3,bytes,dashmap,hashbrown,libc,parking-lot,
 # rayon,thiserror,tracing}-dev and libroaring-dev, and Rust 1.95.
 set -eu
 TYCHO_SRC=$(cd "${TYCHO_SRC:?the folder that holds core/src/storage/shard_state}" && pwd)
 export TYCHO_SRC
 here=$(cd "$(dirname "$0")" && pwd)
 if [ -z "${SELVAIGO_LIB:-}" ]; then
-    (cd "$here/.." && rt staticlib node_abi >/dev/null)
+    "$here/../tools/staticlib.sh" >/dev/null
 fi
 profile=release
 for word; do

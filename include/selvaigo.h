@@ -1,6 +1,6 @@
 /* Selvaigo: the storage core of a network node over a C boundary of numbers and slices.
  *
- * Link libnode_abi.a, which `rt staticlib node_abi` writes to target/staticlib.
+ * Link libselvaigo.a, which tools/staticlib.sh writes to target/staticlib.
  *
  * A slice is a pointer and a number of elements; a pointer of an empty slice is not null and aligned for its element. A value is
  * written through a pointer to as many elements as its brackets say. Slices of one call that are written don't overlap any

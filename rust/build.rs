@@ -1,4 +1,4 @@
-// Links libnode_abi.a, out of the folder in SELVAIGO_LIB or else out of target/staticlib beside this crate's folder.
+// Links libselvaigo.a, out of the folder in SELVAIGO_LIB or else out of target/staticlib beside this crate's folder.
 use std::env;
 use std::path::PathBuf;
 
@@ -8,17 +8,17 @@ fn main() {
         Some(folder) => PathBuf::from(folder),
         None => PathBuf::from(env::var_os("CARGO_MANIFEST_DIR").unwrap()).join("../target/staticlib"),
     };
-    let library = folder.join("libnode_abi.a");
+    let library = folder.join("libselvaigo.a");
     println!("cargo::rerun-if-changed={}", library.display());
     if !library.is_file() {
         println!("cargo::error=there is no {}", library.display());
         println!(
-            "cargo::error=run `rt staticlib node_abi` in the repository, or set SELVAIGO_LIB to the folder that holds libnode_abi.a"
+            "cargo::error=run tools/staticlib.sh in the repository, or set SELVAIGO_LIB to the folder that holds libselvaigo.a"
         );
         return;
     }
     // The tests link the example in C with the same library.
     println!("cargo::rustc-env=SELVAIGO_FOLDER={}", folder.display());
     println!("cargo::rustc-link-search=native={}", folder.display());
-    println!("cargo::rustc-link-lib=static=node_abi");
+    println!("cargo::rustc-link-lib=static=selvaigo");
 }

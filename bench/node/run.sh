@@ -5,7 +5,7 @@
 #   TYCHO_SRC=DIR run.sh [--quick] [WORD ..]     only the lines whose names have one of the words; quick: fewer turns
 #
 # The original's hash is the best that the machine has; a second table, of hash and records, has it built portable. The port is
-# linked from the folder in SELVAIGO_LIB, or else made anew by `rt staticlib node_abi`.
+# linked from the folder in SELVAIGO_LIB, or else made anew by tools/staticlib.sh.
 #
 # Needs Debian's packages librust-{ahash,anyhow,blake3,bytes,dashmap,hashbrown,libc,parking-lot,rayon,thiserror,tracing}-dev and
 # libroaring-dev, and Rust 1.95.
@@ -17,7 +17,7 @@ if [ -n "${SELVAIGO_LIB:-}" ]; then
     export SELVAIGO_LIB
 fi
 cd "$(dirname "$0")"
-[ -n "${SELVAIGO_LIB:-}" ] || (cd ../.. && rt staticlib node_abi >/dev/null)
+[ -n "${SELVAIGO_LIB:-}" ] || ../../tools/staticlib.sh >/dev/null
 target=../../target/bench/node
 for kind in best portable; do
     cargo build --quiet --release --features "$kind" --target-dir "$target"

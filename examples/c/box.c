@@ -1,7 +1,7 @@
 /* A box's counters in C: an index is handed out, gets a count, and is written into a snapshot; a batch that is wrong is refused.
  *
- *   rt staticlib node_abi
- *   cc -std=c11 -Iinclude examples/c/box.c target/staticlib/libnode_abi.a -o target/box && target/box
+ *   tools/staticlib.sh
+ *   cc -std=c11 -Iinclude examples/c/box.c target/staticlib/libselvaigo.a -o target/box && target/box
  */
 #include <inttypes.h>
 #include <stdio.h>

@@ -18,8 +18,8 @@
 //! # Ok::<(), selvaigo::Refusal>(())
 //! ```
 //!
-//! The library, libnode_abi.a, is linked from the folder in the environment variable `SELVAIGO_LIB`, or else from `target/staticlib` beside this crate's
-//! folder, where `rt staticlib node_abi` writes it.
+//! The library, libselvaigo.a, is linked from the folder in the environment variable `SELVAIGO_LIB`, or else from `target/staticlib` beside this crate's
+//! folder, where `tools/staticlib.sh` writes it.
 //!
 //! [`raw`] has the same calls over tables that the caller lends, checked in each call, and [`sys`] the C calls as they are.
 #![deny(missing_docs)]

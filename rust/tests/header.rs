@@ -105,7 +105,7 @@ fn a_c_compiler_takes_both_for_the_same() {
 #[test]
 fn the_example_in_c_runs() {
     let source = concat!(env!("CARGO_MANIFEST_DIR"), "/../examples/c/box.c");
-    let library = format!("{}/libnode_abi.a", env!("SELVAIGO_FOLDER"));
+    let library = format!("{}/libselvaigo.a", env!("SELVAIGO_FOLDER"));
     let run = Command::new(compile("box", &[source, &library])).output().unwrap();
     assert!(run.status.success());
     assert_eq!(String::from_utf8(run.stdout).unwrap(), "count 3, snapshot of 167 bytes, an old count of 2: refused with 5\n");

@@ -7,12 +7,12 @@ use std::hint::black_box;
 use std::time::Instant;
 
 extern "C" {
-    fn blake3_hash(bytes: *const u8, len: usize, out: *mut [u8; 32]);
+    fn selvaigo_hash(bytes: *const u8, len: usize, hash: *mut [u8; 32]);
 }
 
 fn proved(bytes: &[u8]) -> [u8; 32] {
     let mut out = [0; 32];
-    unsafe { blake3_hash(bytes.as_ptr(), bytes.len(), &mut out) };
+    unsafe { selvaigo_hash(bytes.as_ptr(), bytes.len(), &mut out) };
     out
 }
 

@@ -1,0 +1,93 @@
+// Hash, records and journals as C functions; include/selvaigo.h declares them. A slice passes as a pointer and a length, an array as a pointer.
+use state_words::broken;
+use state_words::put_nursery;
+ghost use mathlib.Core.Path.{_≡_};
+ghost use mathlib.Core.List.{[], _∷_};
+ghost use Rattle.blake3.specs.Spec as blake3;
+ghost use Rattle.state_words.specs.Words.{said};
+ghost use Rattle.word_calls.specs.RecordSaid.{encodeSaid, decodeSaid, journalSaid};
+
+// The hash of bytes.
+#[no_mangle]
+pub extern "C" fn selvaigo_hash(bytes: &[u8], hash: &mut [u8; 32])
+    ensures { λ _. ⌜ now (hash .exit) ≡ blake3.hash (now (bytes .entry)) ⌝ }
+{
+    *hash = blake3::hash(bytes);
+}
+
+// The record of a delta, written into the output.
+#[no_mangle]
+pub extern "C" fn selvaigo_encode_record(
+    id: u64,
+    wide: u8,
+    inserts: u64,
+    removes: u64,
+    items: &[u8],
+    out: &mut [u8],
+    figures: &mut [u64; 6],
+) -> u8
+    ensures { λ r. ⌜ said r (now (figures .exit) ∷ []) (now (out .exit) ∷ []) ≡ encodeSaid id wide inserts removes (now (items .entry)) (now (out .entry)) ⌝ }
+{
+    let x = record_write::encode_record(id, wide != 0, inserts, removes, items, out);
+    let s = x.stats;
+    *figures = [
+        x.len as u64,
+        s.payload_bytes,
+        s.metadata_bytes,
+        s.cell_bytes,
+        s.insert_ops,
+        s.remove_ops,
+    ];
+    let a = x.answer;
+    a.number()
+}
+
+// The record that bytes start with.
+#[no_mangle]
+pub extern "C" fn selvaigo_decode_record(
+    bytes: &[u8],
+    figures: &mut [u64; 8],
+    hash: &mut [u8; 32],
+) -> u8
+    ensures { λ r. ⌜ said r (now (figures .exit) ∷ now (hash .exit) ∷ []) [] ≡ decodeSaid (now (bytes .entry)) ⌝ }
+{
+    let x = record_read::decode_record(bytes);
+    let s = x.stats;
+    *figures = [
+        x.id,
+        x.items_at as u64,
+        x.items_len as u64,
+        s.payload_bytes,
+        s.metadata_bytes,
+        s.cell_bytes,
+        s.insert_ops,
+        s.remove_ops,
+    ];
+    let h = x.hash;
+    *hash = h;
+    let a = x.answer;
+    a.number()
+}
+
+// A journal, read into an empty nursery in tables of any content.
+#[no_mangle]
+pub extern "C" fn selvaigo_read_journal(
+    journal: &[u8],
+    nursery: &mut [u64],
+    entries: &mut [u64],
+    waiting: &mut [u64],
+    cells: &mut [u8],
+    read: &mut [u64; 2],
+) -> u8
+    ensures { λ r. ⌜ said r (now (read .exit) ∷ []) (now (nursery .exit) ∷ now (entries .exit) ∷ now (waiting .exit) ∷ now (cells .exit) ∷ []) ≡ journalSaid (now (journal .entry)) (now (nursery .entry)) (now (entries .entry)) (now (waiting .entry)) (now (cells .entry)) ⌝ }
+{
+    if nursery.len() != 3 {
+        *read = [0; 2];
+        return broken();
+    }
+    let x = journal_read::read_journal(journal, entries, waiting, cells);
+    *read = [x.applied as u64, x.place as u64];
+    put_nursery(nursery, x.nursery);
+    let a = x.ended;
+    a.number()
+}

@@ -1,0 +1,28 @@
+-- `shrink_abi::selvaigo_shrink_if_needed_held` meets its contract: the call under it where a state is held, over words. Assumes nothing.
+use borrow.Author.Needs.{needs}
+use Rattle.word_calls.specs.CountersSaidLaws.{shrink-said}
+use Rattle.shrink_abi.proofs.selvaigo_shrink_if_needed_held.Statement.{statement}
+use Rattle.shrink_abi.proofs.selvaigo_shrink_if_needed_held.Tie as tie
+
+counters-of-requires : tie.Need-counters-of-requires
+counters-of-requires c κs = search needs
+
+shrink-held-requires : tie.Need-shrink-held-requires
+shrink-held-requires c κs = rw (c .counters-of .ensures) (c .before .before .before .before .pre .1)
+
+put-shrunk-requires : tie.Need-put-shrunk-requires
+put-shrunk-requires c κs = search needs
+
+same-length : tie.Need-same-length
+same-length c = search needs
+
+returns : tie.Need-returns
+returns c =
+    let s = c .before .before .before .before .before .before .before .before .before .before in
+    let a = s .args in
+    shrink-said (a .state .now) (s .pre .0) (c .before .before .before .before .before .before .counters-of .ensures) (a .counts .now) (a .bytes-saved) (c .before .before .before .before .before .shrink-held .ensures) (c .before .before .put-shrunk .ensures)
+
+pub selvaigo-shrink-if-needed-held-spec : {M : Type 1} → statement M
+selvaigo-shrink-if-needed-held-spec =
+    tie.close
+    (tie.spec counters-of-requires shrink-held-requires put-shrunk-requires same-length returns)

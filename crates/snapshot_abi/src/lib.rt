@@ -1,0 +1,102 @@
+// The counters' snapshots as C functions, lent as in counters_abi; include/selvaigo.h declares them.
+use base::Answer;
+use state_steps::put_wrote;
+use state_words::broken;
+use state_words::counters_of;
+use state_words::put_counters;
+ghost use mathlib.Core.Path.{_≡_};
+ghost use mathlib.Core.Bool.{true};
+ghost use mathlib.Core.List.{[], _∷_};
+ghost use lib.ListN.{length};
+ghost use Rattle.counters.specs.Layout as layout;
+ghost use Rattle.state_words.specs.Words.{countersOf, said};
+ghost use Rattle.word_calls.specs.CountersSaid.{lengthSaid, serializeSaid, deserializeSaid};
+
+// How many bytes the snapshot takes.
+#[no_mangle]
+pub extern "C" fn selvaigo_serialized_len(state: &[u64], counts: &[u64], len: &mut [u64; 1]) -> u8
+    ensures { λ r. ⌜ said r (now (len .exit) ∷ []) [] ≡ lengthSaid (now (state .entry)) (now (counts .entry)) ⌝ }
+{
+    if state.len() != 13 {
+        *len = [0];
+        return broken();
+    }
+    let c = counters_of(state);
+    let x = snapshot_write::serialized_len(c, counts);
+    put_wrote(x, len)
+}
+
+// The same, where the record and the table hold a state.
+#[no_mangle]
+pub extern "C" fn selvaigo_serialized_len_held(
+    state: &[u64],
+    counts: &[u64],
+    len: &mut [u64; 1],
+) -> u8
+    requires { ⌜ (length (now state) ≡ 13) × (layout.holds (countersOf (now state)) (now counts) ≡ true) ⌝ }
+    ensures { λ r. ⌜ said r (now (len .exit) ∷ []) [] ≡ lengthSaid (now (state .entry)) (now (counts .entry)) ⌝ }
+{
+    let c = counters_of(state);
+    let n = snapshot_write::serialized_len_held(c, counts);
+    *len = [n as u64];
+    0
+}
+
+// The snapshot of a state, written into the output.
+#[no_mangle]
+pub extern "C" fn selvaigo_serialize(
+    state: &[u64],
+    counts: &[u64],
+    out: &mut [u8],
+    len: &mut [u64; 1],
+) -> u8
+    ensures { λ r. ⌜ said r (now (len .exit) ∷ []) (now (out .exit) ∷ []) ≡ serializeSaid (now (state .entry)) (now (counts .entry)) (now (out .entry)) ⌝ }
+{
+    if state.len() != 13 {
+        *len = [0];
+        return broken();
+    }
+    let c = counters_of(state);
+    let x = snapshot_write::serialize(c, counts, out);
+    put_wrote(x, len)
+}
+
+// The same, where the record and the table hold a state.
+#[no_mangle]
+pub extern "C" fn selvaigo_serialize_held(
+    state: &[u64],
+    counts: &[u64],
+    out: &mut [u8],
+    len: &mut [u64; 1],
+) -> u8
+    requires { ⌜ (length (now state) ≡ 13) × (layout.holds (countersOf (now state)) (now counts) ≡ true) ⌝ }
+    ensures { λ r. ⌜ said r (now (len .exit) ∷ []) (now (out .exit) ∷ []) ≡ serializeSaid (now (state .entry)) (now (counts .entry)) (now (out .entry)) ⌝ }
+{
+    let c = counters_of(state);
+    let x = snapshot_write::serialize_held(c, counts, out);
+    put_wrote(x, len)
+}
+
+// The state that a snapshot holds, into a record and a table of any content. A refusal changes neither.
+#[no_mangle]
+pub extern "C" fn selvaigo_deserialize_trusted(
+    snapshot: &[u8],
+    state: &mut [u64],
+    counts: &mut [u64],
+) -> u8
+    ensures { λ r. ⌜ said r [] (now (state .exit) ∷ now (counts .exit) ∷ []) ≡ deserializeSaid (now (snapshot .entry)) (now (state .entry)) (now (counts .entry)) ⌝ }
+{
+    if state.len() != 13 {
+        return broken();
+    }
+    let x = snapshot_read::deserialize_trusted(snapshot, counts);
+    let a = x.answer;
+    match a {
+        Answer::Taken => {
+            let c = x.counters;
+            put_counters(state, c);
+            0
+        }
+        Answer::Refused(q) => q.number(),
+    }
+}
