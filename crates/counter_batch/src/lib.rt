@@ -52,7 +52,7 @@ fn apply_once(c: Counters, t: &mut [u64], b: &[u64]) -> Applied
     }
     Applied {
         answer: Answer::Taken,
-        counters: counter_merge::apply_kept(c, t, b),
+        counters: counter_apply::apply_kept(c, t, b),
     }
 }
 

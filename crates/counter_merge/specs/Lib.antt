@@ -1,6 +1,5 @@
 -- `Passes`: what each pass over the table leaves. `Halves`: the table while rows that come wait at its end.
 -- `MarkLaws`: rows that go. `JoinLaws`, `PutLaws`, `AsideLaws`: rows that come. `WordLaws`, `TableLaws`, `MergeLaws`: the words of rows as they move.
--- `RoomLaws`: a table with room to lay rows aside.
 pub mod Passes
 pub mod Halves
 pub mod MarkLaws
@@ -10,4 +9,3 @@ pub mod TableLaws
 pub mod PutLaws
 pub mod AsideLaws
 pub mod MergeLaws
-pub mod RoomLaws

@@ -1,24 +1,18 @@
-// A batch applied in a few passes over the table, whatever number of rows it takes away or brings: rows that go are marked and then left
-// out in one pass, rows that come are laid aside at the table's end and then joined to the others in one pass.
-use counters::Counters;
-use counters::Kind;
-use counters::NextIdx;
+// The passes that a batch is applied in, whatever number of rows it takes away or brings: rows that go are marked and then left out in one
+// pass, rows that come are laid aside at the table's end and then joined to the others in one pass.
 ghost use mathlib.Core.Path.{_≡_};
-ghost use mathlib.Core.Bool.{true, false};
 ghost use mathlib.Core.List.{[], _∷_, _++_};
 ghost use Prim.Native.Nat.{_+_, _-_, _*_, _≤_, _<_};
 ghost use lib.ListN.{length, take, drop, getD};
-ghost use Rattle.base.specs.Logic.{pick, all, elem, flat};
+ghost use Rattle.base.specs.Logic.{pick, elem, flat};
 ghost use Rattle.rows.specs.Table as rows-table;
 ghost use Rattle.rows.specs.Table.{rowsOf, Laid};
 ghost use Rattle.rows.specs.Keys.{keys, firstWord};
-ghost use Rattle.counters.specs.Layout as layout;
-ghost use Rattle.counters.specs.Layout.{countRow, recordOf, stateOf};
-ghost use Rattle.counters.specs.Batch.{kept, countsAfter, stateAfter};
-ghost use Rattle.counters.specs.Held.{InOrder, Judged};
-ghost use Rattle.counters.specs.Steps.{transition, transitions, some};
+ghost use Rattle.counters.specs.Layout.{countRow};
+ghost use Rattle.counters.specs.Held.{InOrder};
+ghost use Rattle.counters.specs.Steps.{transition, transitions};
 ghost use Rattle.counters.specs.RowLaws.{rowAt};
-ghost use Rattle.counter_merge.specs.Passes.{stands, standing, replaced, hits, anyHit, markOne, marked, isNew, newRows, frontOne, fronts, backOne, backs, joined, frontLast, lastAt};
+ghost use Rattle.counter_merge.specs.Passes.{standing, replaced, hits, anyHit, markOne, marked, isNew, newRows, frontOne, fronts, backOne, backs, joined, frontLast, lastAt};
 ghost use Rattle.counter_merge.specs.Halves.{Halves, Apart};
 
 // Gives the row of idx the count new, if there is such a row. Returns whether there is.
@@ -48,7 +42,7 @@ fn mark_one(t: &mut [u64], n: usize, idx: u64, old: u64, new: u64) -> bool
 }
 
 // Marks the rows of all of them. Returns whether there was one.
-fn mark(t: &mut [u64], n: usize, b: &[u64]) -> bool
+pub fn mark(t: &mut [u64], n: usize, b: &[u64]) -> bool
     requires { ⌜ InOrder n (now t) ⌝ }
     ensures { λ r. ⌜ (r ≡ anyHit (keys firstWord 2 n (now (t .entry))) (transitions (now (b .entry)))) × (now (t .exit) ≡ rows-table.tableOf countRow (length (now (t .entry))) (marked (transitions (now (b .entry))) (rowsOf countRow n (now (t .entry))))) ⌝ }
 {
@@ -87,7 +81,7 @@ fn keep_row(t: &mut [u64], i: usize, to: usize) -> usize
 }
 
 // Leaves out the rows that don't stand. Returns how many stand.
-fn compact(t: &mut [u64], n: usize) -> usize
+pub fn compact(t: &mut [u64], n: usize) -> usize
     requires { ⌜ Laid 2 n (now t) ⌝ }
     ensures { λ r. ⌜ (r ≡ length (standing (rowsOf countRow n (now (t .entry))))) × (now (t .exit) ≡ rows-table.tableOf countRow (length (now (t .entry))) (standing (rowsOf countRow n (now (t .entry))))) ⌝ }
 {
@@ -100,18 +94,6 @@ fn compact(t: &mut [u64], n: usize) -> usize
     }
     word_slices::fill(t, to * 2, (n - to) * 2, 0);
     to
-}
-
-// Applies the kept transitions that leave no row. Returns how many rows there are then.
-fn drop_rows(t: &mut [u64], n: usize, b: &[u64]) -> usize
-    requires { ⌜ InOrder n (now t) ⌝ }
-    requires { ⌜ all stands (rowsOf countRow n (now t)) ≡ true ⌝ }
-    ensures { λ r. ⌜ (r ≡ length (countsAfter (some false (transitions (now (b .entry)))) (rowsOf countRow n (now (t .entry))))) × (now (t .exit) ≡ rows-table.tableOf countRow (length (now (t .entry))) (countsAfter (some false (transitions (now (b .entry)))) (rowsOf countRow n (now (t .entry))))) ⌝ }
-{
-    if mark(t, n, b) {
-        return compact(t, n);
-    }
-    n
 }
 
 // Whether there is a row of idx.
@@ -141,7 +123,7 @@ fn is_new(t: &[u64], n: usize, idx: u64, old: u64, new: u64) -> usize
 }
 
 // How many of them there are.
-fn new_rows(t: &[u64], n: usize, b: &[u64]) -> usize
+pub fn new_rows(t: &[u64], n: usize, b: &[u64]) -> usize
     requires { ⌜ InOrder n (now t) ⌝ }
     ensures { λ r. ⌜ r ≡ newRows (keys firstWord 2 n (now (t .entry))) (transitions (now (b .entry))) ⌝ }
 {
@@ -172,7 +154,7 @@ fn put_one(t: &mut [u64], n: usize, at: usize, s: usize, idx: u64, old: u64, new
 }
 
 // Applies all of them. Returns how many rows are laid aside.
-fn put_all(t: &mut [u64], n: usize, at: usize, b: &[u64]) -> usize
+pub fn put_all(t: &mut [u64], n: usize, at: usize, b: &[u64]) -> usize
     requires { ⌜ Halves n at 0 (now t) ⌝ }
     requires { ⌜ at + newRows (keys firstWord 2 n (take at (now t))) (transitions (now b)) * 2 ≤ length (now t) ⌝ }
     ensures { λ r. ⌜ (r ≡ length (backs (keys firstWord 2 n (take at (now (t .entry)))) (transitions (now (b .entry))) [])) × (now (t .exit) ≡ rows-table.tableOf countRow at (fronts (transitions (now (b .entry))) (rowsOf countRow n (take at (now (t .entry))))) ++ rows-table.tableOf countRow (length (now (t .entry)) - at) (backs (keys firstWord 2 n (take at (now (t .entry)))) (transitions (now (b .entry))) [])) ⌝ }
@@ -208,7 +190,7 @@ fn merge_one(t: &mut [u64], i: usize, left: usize, at: usize) -> usize
 
 // Joins the s rows from the word `at` on to the n rows at the front, from the last row down, and clears their words. Returns how many rows
 // there are then.
-fn merge(t: &mut [u64], n: usize, at: usize, s: usize) -> usize
+pub fn merge(t: &mut [u64], n: usize, at: usize, s: usize) -> usize
     requires { ⌜ Apart n at s (now t) ⌝ }
     ensures { λ r. ⌜ (r ≡ length (joined (rowsOf countRow s (drop at (now (t .entry)))) (rowsOf countRow n (take at (now (t .entry)))))) × (now (t .exit) ≡ rows-table.tableOf countRow (length (now (t .entry))) (joined (rowsOf countRow s (drop at (now (t .entry)))) (rowsOf countRow n (take at (now (t .entry)))))) ⌝ }
 {
@@ -221,41 +203,4 @@ fn merge(t: &mut [u64], n: usize, at: usize, s: usize) -> usize
     }
     word_slices::fill(t, at, s * 2, 0);
     n + s
-}
-
-// Applies the kept transitions that leave a row. A table without room to lay the rows aside takes them one by one. Returns how many rows
-// there are then.
-fn put_rows(t: &mut [u64], n: usize, b: &[u64]) -> usize
-    requires { ⌜ InOrder n (now t) ⌝ }
-    requires { ⌜ length (countsAfter (some true (transitions (now b))) (rowsOf countRow n (now t))) * 2 ≤ length (now t) ⌝ }
-    ensures { λ r. ⌜ (r ≡ length (countsAfter (some true (transitions (now (b .entry)))) (rowsOf countRow n (now (t .entry))))) × (now (t .exit) ≡ rows-table.tableOf countRow (length (now (t .entry))) (countsAfter (some true (transitions (now (b .entry)))) (rowsOf countRow n (now (t .entry))))) ⌝ }
-{
-    let k = new_rows(t, n, b);
-    let free = t.len() / 2 - n;
-    if free / 2 < k {
-        return counter_steps::apply_some(t, n, b, true);
-    }
-    let at = (n + free - k) * 2;
-    let s = put_all(t, n, at, b);
-    merge(t, n, at, s)
-}
-
-// Applies the kept transitions of a batch that is judged good. Those that leave no row go first, so that no row lacks room.
-pub fn apply_kept(c: Counters, t: &mut [u64], b: &[u64]) -> Counters
-    requires { ⌜ Judged c (now t) (now b) ⌝ }
-    ensures { λ r. ⌜ (r ≡ recordOf (stateAfter (kept (transitions (now (b .entry)))) (stateOf c (now (t .entry))))) × (now (t .exit) ≡ layout.tableOf (length (now (t .entry))) (stateAfter (kept (transitions (now (b .entry)))) (stateOf c (now (t .entry))))) ⌝ }
-{
-    let n = c.stored;
-    let live = c.live_cells + counter_steps::tally(b, Kind::Birth)
-        - counter_steps::tally(b, Kind::Death);
-    let maintenance = c.maintenance;
-    let m = counter_steps::maintained_by(b, maintenance);
-    let freed = drop_rows(t, n, b);
-    let stored = put_rows(t, freed, b);
-    Counters {
-        next_idx: NextIdx(c.next_idx.0),
-        live_cells: live,
-        stored,
-        maintenance: m,
-    }
 }

@@ -1,8 +1,8 @@
 use native.Mathlib.Omega.{arith}
 use borrow.Author.Needs.{needs}
-use Rattle.counter_merge.specs.RoomLaws.{batch-begin, batch-apart, batch-end}
-use Rattle.counter_merge.proofs.put_rows.Statement.{statement}
-use Rattle.counter_merge.proofs.put_rows.Tie as tie
+use Rattle.counter_apply.specs.RoomLaws.{batch-begin, batch-apart, batch-end}
+use Rattle.counter_apply.proofs.put_rows.Statement.{statement}
+use Rattle.counter_apply.proofs.put_rows.Tie as tie
 
 new-rows-requires : tie.Need-new-rows-requires
 new-rows-requires c κs = search needs

@@ -1,8 +1,8 @@
 use mathlib.Core.Path.{sym, _∙_}
 use borrow.Author.Needs.{needs}
-use Rattle.counter_merge.specs.TableLaws.{marked-laid, dropped, none-dropped}
-use Rattle.counter_merge.proofs.drop_rows.Statement.{statement}
-use Rattle.counter_merge.proofs.drop_rows.Tie as tie
+use Rattle.counter_apply.specs.DropLaws.{marked-laid, dropped, none-dropped}
+use Rattle.counter_apply.proofs.drop_rows.Statement.{statement}
+use Rattle.counter_apply.proofs.drop_rows.Tie as tie
 
 mark-requires : tie.Need-mark-requires
 mark-requires c κs = search needs

@@ -1,4 +1,4 @@
--- `counter_merge::apply_kept`.
+-- `counter_apply::apply_kept`.
 -- Assumes nothing.
 use native.Mathlib.Omega.{arith}
 use borrow.Author.Needs.{needs}
@@ -6,9 +6,9 @@ use Rattle.counters.specs.Batch.{kept}
 use Rattle.counters.specs.Steps.{transitions}
 use Rattle.counters.specs.JudgeLaws.{total-within}
 use Rattle.counters.specs.KeptLaws.{first-order, second-order, second-fits, record-after, table-after}
-use Rattle.counter_merge.specs.RoomLaws.{judged-stand}
-use Rattle.counter_merge.proofs.apply_kept.Statement.{statement}
-use Rattle.counter_merge.proofs.apply_kept.Tie as tie
+use Rattle.counter_apply.specs.RoomLaws.{judged-stand}
+use Rattle.counter_apply.proofs.apply_kept.Statement.{statement}
+use Rattle.counter_apply.proofs.apply_kept.Tie as tie
 
 tally-requires : tie.Need-tally-requires
 tally-requires c κs = search needs
