@@ -1,4 +1,2 @@
--- `RunLaws`: inserts and removes in turn. `BoundLaws`: inserts read from bytes. `CommitLaws`: each way out of a delta's call.
-pub mod RunLaws
-pub mod BoundLaws
+-- `CommitLaws`: each way out of a delta's call.
 pub mod CommitLaws

@@ -5,14 +5,14 @@ use Rattle.cell_nursery.specs.Layout.{stateOf}
 use Rattle.cell_nursery.specs.Calls.{laid}
 use Rattle.delta_items.specs.Walk.{hashIn, hashesIn, removesFrom}
 use Rattle.delta_items.specs.WalkLaws.{removes-turn, removes-done}
-use Rattle.nursery_commit.specs.RunLaws.{Running, removing-next, removing-done}
+use Rattle.nursery_run.specs.RunLaws.{Running, removing-next, removing-done}
 use mathlib.Core.Path.{_≡_, refl, ap, _∙_}
 use mathlib.Core.List.{List}
 use Prim.Native.Nat.{ℕ, _+_, _-_, _*_}
 use native.Mathlib.Omega.{arith}
 use lib.ListN.{drop}
-use Rattle.nursery_commit.proofs.apply_removes.Statement.{statement}
-use Rattle.nursery_commit.proofs.apply_removes.Tie as tie
+use Rattle.nursery_run.proofs.apply_removes.Statement.{statement}
+use Rattle.nursery_run.proofs.apply_removes.Tie as tie
 
 abbrev Inv-loop : tie.InvT-loop
 Inv-loop es₀ ws₀ cs₀ removes items at q₀ j₀ es ws cs q j = Running es₀ ws₀ cs₀ (fold remove (hashesIn removes (drop at items)) (stateOf q₀ es₀ ws₀ cs₀)) (fold remove (removesFrom removes j at items)) q es ws cs

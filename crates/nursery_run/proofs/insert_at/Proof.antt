@@ -4,14 +4,14 @@ use Rattle.cell_nursery.specs.Layout.{stateOf}
 use Rattle.cell_nursery.specs.Calls.{laid, lengthWidth}
 use Rattle.delta_items.specs.Walk.{insertIn}
 use Rattle.nursery_steps.specs.Steps.{newEntry, Insertable}
-use Rattle.nursery_commit.specs.BoundLaws.{insert-read}
+use Rattle.nursery_run.specs.BoundLaws.{insert-read}
 use mathlib.Core.Path.{_≡_, sym, ap, _∙_}
 use Prim.Native.Nat.{ℕ, _+_, _-_}
 use native.Mathlib.Omega.{arith}
 use borrow.Author.Needs.{needs}
 use lib.ListN.{take, drop}
-use Rattle.nursery_commit.proofs.insert_at.Statement.{statement}
-use Rattle.nursery_commit.proofs.insert_at.Tie as tie
+use Rattle.nursery_run.proofs.insert_at.Statement.{statement}
+use Rattle.nursery_run.proofs.insert_at.Tie as tie
 
 -- the entry that is read is the insert's
 entry : (c : tie.After-head-len) → let a = c .before .before .before .before .before .before .before .before .before .args in newEntry (c .before .before .before .before .wide-of .result) (c .before .before .before .idx-at .result) (c .before .before .born-at .result) (take (c .before .cell-len .result) (drop (a .at + c .head-len .result) (a .items .now))) ≡ insertIn (lengthWidth (a .wide)) (drop (a .at) (a .items .now))

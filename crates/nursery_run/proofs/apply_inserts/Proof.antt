@@ -5,14 +5,14 @@ use Rattle.cell_nursery.specs.Layout.{stateOf}
 use Rattle.cell_nursery.specs.Calls.{lengthWidth}
 use Rattle.delta_items.specs.Walk.{insertIn, insertLen, insertsIn, insertsLen, insertsFrom}
 use Rattle.delta_items.specs.WalkLaws.{Left, left-start, left-head, left-next, inserts-turn, inserts-done}
-use Rattle.nursery_commit.specs.RunLaws.{Inserting, insertable, inserting-next, inserting-done}
+use Rattle.nursery_run.specs.RunLaws.{Inserting, insertable, inserting-next, inserting-done}
 use mathlib.Core.Path.{_≡_, refl}
 use mathlib.Core.List.{List, _∷_}
 use Prim.Native.Nat.{ℕ, _+_, _-_}
 use native.Mathlib.Omega.{arith}
 use lib.ListN.{drop}
-use Rattle.nursery_commit.proofs.apply_inserts.Statement.{statement}
-use Rattle.nursery_commit.proofs.apply_inserts.Tie as tie
+use Rattle.nursery_run.proofs.apply_inserts.Statement.{statement}
+use Rattle.nursery_run.proofs.apply_inserts.Tie as tie
 
 abbrev Inv-loop : tie.InvT-loop
 Inv-loop es₀ ws₀ cs₀ wide inserts items q₀ at₀ i₀ es ws cs q at i = (Left (lengthWidth wide) inserts i at (insertsLen (lengthWidth wide) inserts items) items) × Inserting es₀ ws₀ cs₀ (fold insert (insertsIn (lengthWidth wide) inserts items) (stateOf q₀ es₀ ws₀ cs₀)) (insertsFrom (lengthWidth wide) inserts i at items) q es ws cs

@@ -1,4 +1,4 @@
--- `nursery_commit::apply_items`: what the inserts leave holds a state, on which the removes are done.
+-- `nursery_run::apply_items`: what the inserts leave holds a state, on which the removes are done.
 -- Assumes nothing.
 use mathlib.Core.Path.{_≡_}
 use native.Mathlib.Omega.{arith}
@@ -7,9 +7,9 @@ use Rattle.cell_nursery.specs.Calls.{lengthWidth}
 use Rattle.cell_nursery.specs.HashLaws.{U64}
 use Rattle.delta_items.specs.Walk.{deltaIn}
 use Rattle.delta_items.specs.WalkLaws.{fit-inserts, fit-removes}
-use Rattle.nursery_commit.specs.RunLaws.{ready-start, held-mid, delta-done}
-use Rattle.nursery_commit.proofs.apply_items.Statement.{statement}
-use Rattle.nursery_commit.proofs.apply_items.Tie as tie
+use Rattle.nursery_run.specs.RunLaws.{ready-start, held-mid, delta-done}
+use Rattle.nursery_run.proofs.apply_items.Statement.{statement}
+use Rattle.nursery_run.proofs.apply_items.Tie as tie
 
 -- the words of the tables are u64
 u64-es : (c : tie.After-apply-inserts-arg) → U64 (c .before .before .before .before .before .args .es .now)
