@@ -15,8 +15,7 @@ use Rattle.counters.specs.declared.Counters.{Counters}
 use Rattle.counters.specs.Layout.{stateOf, holds}
 use Rattle.counters.specs.Calls.{onState}
 use Rattle.snapshot.specs.Write.{snapshotBytes}
-use Rattle.snapshot.specs.Calls.{serializeCall}
-use Rattle.snapshot_write.specs.Calls.{lengthCall, outcome}
+use Rattle.snapshot.specs.Calls.{serializeCall, lengthCall, outcome}
 
 module _ (c : Counters) (t : List ℕ) where
   -- ---- the length

@@ -1,6 +1,4 @@
--- `Calls`: the call for a snapshot's length. `PartLaws`: a snapshot's parts one after the other. `BoundLaws`: its length fits.
--- `CallLaws`: the ways out of the calls.
-pub mod Calls
+-- `PartLaws`: a snapshot's parts one after the other. `BoundLaws`: its length fits. `CallLaws`: the ways out of the calls.
 pub mod PartLaws
 pub mod BoundLaws
 pub mod CallLaws

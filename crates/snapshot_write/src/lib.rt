@@ -22,8 +22,7 @@ ghost use Rattle.counters.specs.Layout.{countRow, stateOf};
 ghost use Rattle.counters.specs.Layout as layout;
 ghost use Rattle.counters.specs.Held.{InOrder};
 ghost use Rattle.snapshot.specs.Write.{setBytes, snapshotBytes};
-ghost use Rattle.snapshot.specs.Calls.{serializeCall};
-ghost use Rattle.snapshot_write.specs.Calls.{lengthCall, outcome};
+ghost use Rattle.snapshot.specs.Calls.{serializeCall, lengthCall, outcome};
 ghost use Rattle.snapshot_write.specs.PartLaws.{setsFrom, largeFrom};
 
 // The first byte of a snapshot.

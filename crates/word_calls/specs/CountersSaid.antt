@@ -14,8 +14,7 @@ use Rattle.counters.specs.declared.Got.{Got}
 use Rattle.counters.specs.declared.Shrunk.{Shrunk}
 use Rattle.counters.specs.Maintenance.{standard}
 use Rattle.counters.specs.Calls.{Changed, newCall, allocCall, getCall, batchCall, shrinkCall}
-use Rattle.snapshot.specs.Calls.{serializeCall, deserializeCall}
-use Rattle.snapshot_write.specs.Calls.{lengthCall}
+use Rattle.snapshot.specs.Calls.{serializeCall, deserializeCall, lengthCall}
 use Rattle.state_words.specs.Words.{countersWords, decisions, Said, said, oneWord, writtenSaid, brokenSaid, overCounters}
 
 -- ---- what the calls under them give, in words

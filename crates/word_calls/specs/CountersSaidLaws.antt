@@ -17,8 +17,7 @@ use Rattle.counters.specs.declared.Got.{Got}
 use Rattle.counters.specs.declared.Shrunk.{Shrunk}
 use Rattle.counters.specs.Maintenance.{standard}
 use Rattle.counters.specs.Calls.{changed, made, newCall, allocCall, getCall, batchCall, shrinkCall}
-use Rattle.snapshot.specs.Calls.{serializeCall, deserializeCall}
-use Rattle.snapshot_write.specs.Calls.{lengthCall, outcome}
+use Rattle.snapshot.specs.Calls.{serializeCall, deserializeCall, lengthCall, outcome}
 use Rattle.state_words.specs.Words.{countersOf, countersWords, said, oneWord, decisions, writtenSaid}
 use Rattle.state_words.specs.WordLaws.{over-counters, not-counters}
 use Rattle.word_calls.specs.CountersSaid.{changedSaid, allocatedSaid, gotSaid, shrunkSaid, lengthFound, readSaid, newSaid, allocSaid, getSaid, batchSaid, shrinkSaid, lengthSaid, serializeSaid, deserializeSaid}

@@ -33,9 +33,9 @@ use Rattle.journal_laws.specs.DeltaLaws.{delta-read, delta-fits, taken-accepted
 use Rattle.journal_read.specs.RecordLaws.{U8, u8-drop, u8-part, decode-whole}
 use Rattle.state_words.specs.WordLaws.{over-nursery}
 use Rattle.state_words.specs.Words.{brokenSaid, overNursery, Unchanged, left}
 use Rattle.word_calls.specs.NurserySaid.{flag}
-use Rattle.word_calls.specs.NurserySaidKeptLaws.{Held, words-held}
+use Rattle.word_laws.specs.NurseryKept.{Held, words-held}
 use Rattle.word_calls.specs.RecordSaid.{encodedSaid, encodeSaid, decodedSaid, decodeSaid, readInSaid, journalSaid}
 
 -- ---- records
 pub encode-unchanged : (id wide inserts removes : ℕ) (items out : List ℕ) → Unchanged (zeros 6 ∷ []) (out ∷ []) (encodeSaid id wide inserts removes items out)

@@ -23,12 +23,11 @@ use Rattle.counters.specs.Calls.{onState, laid, laidOut, newCall, allocated, al
 use Rattle.counters.specs.CallLaws.{new-holds, alloc-holds, batch-holds, shrink-holds}
 use Rattle.snapshot.specs.Write.{snapshotBytes}
 use Rattle.snapshot.specs.Read.{readSnapshot}
-use Rattle.snapshot.specs.Calls.{serializeCall, deserializeCall}
-use Rattle.snapshot_write.specs.Calls.{lengthCall}
+use Rattle.snapshot.specs.Calls.{serializeCall, deserializeCall, lengthCall}
 use Rattle.snapshot_laws.specs.CallLaws.{deserialize-taken-holds}
 use Rattle.state_words.specs.Words.{countersOf, countersWords, oneWord, writtenSaid, Unchanged, left}
 use Rattle.state_words.specs.WordLaws.{counters-words-back, length-counters-words, over-counters, each-counters-way}
 use Rattle.word_calls.specs.CountersSaid.{wordsAfter, changedSaid, allocatedSaid, gotSaid, shrunkSaid, lengthFound, readSaid, newSaid, allocSaid, getSaid, batchSaid, shrinkSaid, lengthSaid, serializeSaid, deserializeSaid}
 
 -- ---- refusals
 
