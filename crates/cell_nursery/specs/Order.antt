@@ -1,8 +1,7 @@
 -- The order of the nursery's refusals and the bound of each, fixed by evaluation.
 -- Of two neighbours in an order: the smallest input that meets both conditions, and the number that is given.
 -- Of each refusal: the smallest input that is given it, beside the nearest one that is not.
--- Long cells are any bytes of a given length: written out they would take longer to evaluate than all the rest.
--- A list over 2 ^ 32 - 1 items is too long to be evaluated.
+-- Long cells and long lists are any of a given length: written out they would take longer to evaluate than all the rest.
 -- Assumes nothing.
 use mathlib.Core.Path.{_≡_, refl, ap, _∙_}
 use Prim.Native.Nat.{ℕ, _+_, _*_, _^_, _-_}
@@ -12,9 +11,9 @@ use mathlib.Core.Option.{Option, some}
 use mathlib.Core.List.{List, [], _∷_, _++_, append-assoc}
 use lib.ListN.{length, take, replicate, drop-of-length-le}
 use lib.Seq.{take-all}
-use lib.Dec.{leb}
+use lib.Dec.{leb, ltb}
 use borrow.Author.Tests.{le-leb, ltb-true, eq-eqb}
-use Rattle.base.specs.Logic.{fold, zeros}
+use Rattle.base.specs.Logic.{any, fold, zeros}
 use Rattle.base.specs.Bytes.{le32, le64, cut, readList}
 use Rattle.base.specs.Laws.{readLe-append}
 use Rattle.base.specs.Answers.{answerNumber, answerOf, orRefuse, _>>=_}
@@ -108,6 +107,10 @@ pub record RefusalOrder : Type 0 where
   broken-before-output : answerNumber (drainCall promotionDelay (recordOf one) (entriesTable 8 one ++ 3 ∷ []) (waitingTable 5 one) [] 100 [] .result .answer) ≡ 20
   broken-before-listing : answerNumber (listingCall (recordOf one) (entriesTable 8 one ++ 3 ∷ []) [] [] .result .answer) ≡ 20
 
+-- no cell of these entries is over 65,535 bytes
+abbrev Short : List Entry → Type 0
+Short is = any (λ e. ltb 65535 (length (e .cell))) is ≡ false
+
 pub record RefusalBounds : Type 0 where
   -- 12: a hash that is there, also where the delta removes it, or twice in the delta; and another hash
   present : delta one 2 0 (plain 1 ∷ []) [] ≡ 12
@@ -133,6 +136,11 @@ pub record RefusalBounds : Type 0 where
   -- 14: a cell of 65,535 bytes, and of one more
   long-cell : (c : List ℕ) → length c ≡ 65535 → applied empty 1 65535 (holding 1 c ∷ []) ≡ 0
   too-long-cell : (c : List ℕ) → length c ≡ 65536 → wide (holding 1 c) ≡ 14
+  -- 14: lists of 4,294,967,295 items, and of one more
+  long-lists : (is : List Entry) (rs : List ℕ) → Short is → length is ≡ 4294967295 → length rs ≡ 4294967295
+      → tooLong (record { inserts = is; removes = rs }) ≡ false
+  too-many-inserts : (is : List Entry) → Short is → length is ≡ 4294967296 → tooLong (record { inserts = is; removes = [] }) ≡ true
+  too-many-removes : (rs : List ℕ) → length rs ≡ 4294967296 → tooLong (record { inserts = []; removes = rs }) ≡ true
   -- 20: an insert of 45 bytes and a remove of 31 are no delta; bytes after the last item are ignored
   insert-short : items 8 5 0 1 0 (zeros 45) ≡ 20
   insert-whole : items 8 5 0 1 0 (zeros 46) ≡ 0
@@ -282,6 +290,9 @@ refusal-bounds =
       freed = refl;
       long-cell = λ c h. rw h refl;
       too-long-cell = λ c h. too-long c h;
+      long-lists = λ is rs s h k. rw (s, h, k) refl;
+      too-many-inserts = λ is s h. rw (s, h) refl;
+      too-many-removes = λ rs h. rw h refl;
       insert-short = refl;
       insert-whole = refl;
       insert-and-more = refl;

@@ -141,7 +141,7 @@ pub record MaintenanceBounds : Type 0 where
   nothing-removed : shouldShrink 0 0 0 ≡ false
   nothing-alive : shouldShrink 0 1 9 ≡ true
   -- removed at least the minimum
-  at-minimum : shouldShrink 1 setMinimum setMinimum ≡ true
+  at-minimum : shouldShrink 1 65536 setMinimum ≡ true
   below-minimum : shouldShrink 1 65535 setMinimum ≡ false
   -- 3 × removed at least alive
   third : shouldShrink 3 1 1 ≡ true

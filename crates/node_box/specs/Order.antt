@@ -1,8 +1,8 @@
--- A box's calls one after the other: document 01's sequence of two allocations and two batches, and what the plain box makes of the
--- calls, fixed by evaluation. The order of each call's refusals stands in the crate that has the call.
+-- A box's calls one after the other: document 01's sequence of two allocations and two batches, what the plain box makes of the
+-- calls, and which records a journal has, fixed by evaluation. The order of each call's refusals stands in the crate that has the call.
 -- Assumes nothing.
 use mathlib.Core.Path.{_≡_, refl}
-use Prim.Native.Nat.{ℕ}
+use Prim.Native.Nat.{ℕ, _*_}
 use mathlib.Core.Bool.{true, false}
 use mathlib.Core.Option.{Option, none, some}
 use mathlib.Core.List.{List, [], _∷_}
@@ -13,6 +13,7 @@ use Rattle.cell_nursery.specs.Entries.{Entry}
 use Rattle.cell_nursery.specs.Items.{Delta, itemBytes}
 use Rattle.node_box.specs.Box.{Box, Call, allocate, batch, delta, drain, made, step, run, answers}
 use Rattle.node_box.specs.Plain.{Plain, Cell, freshPlain, plainStep, runPlain}
+use Rattle.node_box.specs.Journal.{Logged, loggedOf, whole}
 use Rattle.node_box.specs.Open.{evaluation}
 
 -- a fresh box at next index 0, with room for two counts, two entries and two cell bytes
@@ -43,6 +44,17 @@ change rs = delta 3 false 1 (length rs) (itemBytes (record { inserts = entry ∷
 abbrev changed : List ℕ → Plain
 changed rs = plainStep (freshPlain 0) (change rs) true
 
+-- how many records a delta of some removes leaves in the journal, under a hash of no bytes
+abbrev logged : ℕ → ℕ
+logged n = length (loggedOf (λ bs. []) (delta 3 false 0 n (zeros (32 * n))) [])
+
+-- how many of two records of two bytes are whole in the first k bytes
+abbrev pair : Logged
+pair = record { bytes = 8 ∷ 9 ∷ []; after = [] }
+
+abbrev left : ℕ → ℕ
+left k = length (whole k (pair ∷ pair ∷ []))
+
 pub record BoxLines : Type 0 where
   -- answer, next and live of the four calls
   first-allocation : line 0 allocate ≡ 0 ∷ 1 ∷ 0 ∷ []
@@ -51,6 +63,8 @@ pub record BoxLines : Type 0 where
   second-batch : line 3 (batch (1 ∷ 2 ∷ 5 ∷ [])) ≡ 5 ∷ 2 ∷ 2 ∷ []
   -- the table after them: count 3 at index 1, and nothing for the count 1 at index 0
   table : run box calls .counts ≡ 1 ∷ 3 ∷ 0 ∷ 0 ∷ []
+  -- a fresh plain box has the count 1 at every index
+  plain-fresh : freshPlain 0 .count 7 ≡ 1
   -- the plain box is fed which calls were accepted; next, live and the counts follow
   accepted : answers box calls ≡ true ∷ true ∷ true ∷ false ∷ []
   plain-next : plain .next ≡ 2
@@ -70,6 +84,13 @@ pub record BoxLines : Type 0 where
   plain-remove : changed (1 ∷ []) .entry 1 ≡ none
   -- draining is no step
   plain-drain : plainStep (changed []) (drain 105 44) true .entry 1 ≡ some (record { idx = 7; born = 5; cell = 8 ∷ 9 ∷ [] })
+  -- a delta without an item leaves no record
+  logged-none : logged 0 ≡ 0
+  logged-one : logged 1 ≡ 1
+  -- a record is whole where all its bytes are left
+  cut-before : left 1 ≡ 0
+  cut-behind : left 2 ≡ 1
+  cut-within : left 3 ≡ 1
 
 pub box-lines : BoxLines
 unfolding evaluation
@@ -80,6 +101,7 @@ box-lines =
       first-batch = refl;
       second-batch = refl;
       table = refl;
+      plain-fresh = refl;
       accepted = refl;
       plain-next = refl;
       plain-live = refl;
@@ -93,4 +115,9 @@ box-lines =
       plain-other = refl;
       plain-remove = refl;
       plain-drain = refl;
+      logged-none = refl;
+      logged-one = refl;
+      cut-before = refl;
+      cut-behind = refl;
+      cut-within = refl;
     }

@@ -1,4 +1,4 @@
--- The order of a snapshot reading's refusals, the bound of each, and the order of a snapshot's fields, fixed by evaluation.
+-- The order of a snapshot reading's refusals, the bound of each, the order of a snapshot's fields, and a snapshot read back, fixed by evaluation.
 -- Of two neighbours in the order: the smallest bytes that meet both conditions, and the number that is given.
 -- Assumes nothing.
 use mathlib.Core.Path.{_≡_, refl}
@@ -7,13 +7,14 @@ use mathlib.Core.List.{List, [], _∷_, _++_}
 use lib.ListN.{length, take, drop, replicate}
 use Rattle.base.specs.Logic.{flat, from, zeros}
 use Rattle.base.specs.Bytes.{le64}
-use Rattle.base.specs.Answers.{answerNumber}
+use Rattle.base.specs.Answers.{answerNumber, taken}
 use Rattle.base.specs.declared.Answer.the-variants.{Taken, Refused}
 use Rattle.base.specs.declared.Refusal.the-variants.{TornSnapshot, OutputFull}
 use Rattle.roaring.specs.Write.{write64}
 use Rattle.counters.specs.declared.Counters.{Counters}
 use Rattle.counters.specs.Counts.{State, freshMaintenance}
 use Rattle.snapshot.specs.Write.{snapshotBytes}
+use Rattle.snapshot.specs.Read.{readSnapshot}
 use Rattle.snapshot.specs.Calls.{serializeCall, deserializeCall}
 use Rattle.snapshot.specs.Open.{evaluation}
 
@@ -120,6 +121,22 @@ pub record Fields : Type 0 where
   -- set 0 is empty, set 1 has index 5, the six others are empty; then index and count of the large tier
   rest : drop 17 (snapshotBytes sample)
       ≡ led (zeros 8) ++ led (write64 (5 ∷ [])) ++ blank 6 ++ 6 ∷ 0 ∷ 0 ∷ 0 ∷ 0 ∷ 0 ∷ 0 ∷ 0 ∷ 2 ∷ 3 ∷ 0 ∷ 0 ∷ 0 ∷ 0 ∷ 0 ∷ 0 ∷ []
+
+-- counts of both tiers: one bit alone, another one, all eight, none
+abbrev stored : State
+stored =
+    record {
+      next = 9;
+      live = 5;
+      counts =
+          record { idx = 1; count = 2 } ∷ record { idx = 2; count = 3 } ∷ record { idx = 3; count = 256 }
+          ∷ record { idx = 4; count = 300 } ∷ record { idx = 7; count = 400 } ∷ [];
+      maintenance = freshMaintenance 6;
+    }
+
+pub read-back : readSnapshot 6 5 (snapshotBytes stored) ≡ taken stored
+unfolding evaluation
+read-back = refl
 
 pub refusal-order : RefusalOrder
 unfolding evaluation
