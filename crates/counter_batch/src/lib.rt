@@ -9,9 +9,11 @@ ghost use mathlib.Core.Bool.{true, false};
 ghost use Prim.Native.Nat.{_%_};
 ghost use lib.ListN.{length};
 ghost use Rattle.base.specs.Logic.{any, repeated};
-ghost use Rattle.base.specs.declared.Answer.the-variants.{Refused};
+ghost use Rattle.base.specs.declared.Answer.the-variants.{Taken, Refused};
 ghost use Rattle.counters.specs.Layout as layout;
-ghost use Rattle.counters.specs.Batch.{kept, named, unallocated};
+ghost use Rattle.counters.specs.Layout.{recordOf, stateOf};
+ghost use Rattle.counters.specs.Batch.{kept, named, unallocated, stateAfter};
+ghost use Rattle.counters.specs.Held.{Judged};
 ghost use Rattle.counters.specs.Steps.{transitions};
 ghost use Rattle.counters.specs.Calls.{changed, batchCall};
 
@@ -22,6 +24,18 @@ fn refused(c: Counters, r: Refusal) -> Applied
     Applied {
         answer: Answer::Refused(r),
         counters: c,
+    }
+}
+
+// A batch that passed every test is taken.
+fn taken(c: Counters, t: &mut [u64], b: &[u64]) -> Applied
+    requires { ⌜ Judged c (now t) (now b) ⌝ }
+    ensures { λ r. ⌜ (r .answer ≡ Taken) × (r .counters ≡ recordOf (stateAfter (kept (transitions (now (b .entry)))) (stateOf c (now (t .entry))))) × (now (t .exit) ≡ layout.tableOf (length (now (t .entry))) (stateAfter (kept (transitions (now (b .entry)))) (stateOf c (now (t .entry))))) ⌝ }
+{
+    let counters = counter_apply::apply_kept(c, t, b);
+    Applied {
+        answer: Answer::Taken,
+        counters,
     }
 }
 
@@ -50,10 +64,7 @@ fn apply_once(c: Counters, t: &mut [u64], b: &[u64]) -> Applied
     ) {
         return refused(c, Refusal::TableFull);
     }
-    Applied {
-        answer: Answer::Taken,
-        counters: counter_apply::apply_kept(c, t, b),
-    }
+    taken(c, t, b)
 }
 
 // A batch on a table that holds a state: 20 for ragged words, then 2, 3, 5, 4, 6, each over the whole batch, before the first write. The
