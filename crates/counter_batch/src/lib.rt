@@ -6,7 +6,8 @@ use counters::Counters;
 use counters::Kind;
 ghost use mathlib.Core.Path.{_≡_};
 ghost use mathlib.Core.Bool.{true, false};
-ghost use Prim.Native.Nat.{_%_};
+ghost use Prim.Native.Nat.{_+_, _-_, _/_, _%_, _^_, _≤_, _<_};
+ghost use lib.Dec.{ltb};
 ghost use lib.ListN.{length};
 ghost use Rattle.base.specs.Logic.{any, repeated};
 ghost use Rattle.base.specs.declared.Answer.the-variants.{Taken, Refused};
@@ -25,6 +26,15 @@ fn refused(c: Counters, r: Refusal) -> Applied
         answer: Answer::Refused(r),
         counters: c,
     }
+}
+
+// 6: n rows, with those that come and without those that go, are more than the table has room for.
+fn exceeds(t: &[u64], n: usize, rises: u64, falls: u64) -> bool
+    requires { ⌜ (n + rises < 2 ^ 64) × (falls ≤ n + rises) ⌝ }
+    ensures { λ r. ⌜ r ≡ ltb (length (now (t .entry)) / 2) (n + rises - falls) ⌝ }
+{
+    let room = (t.len() / 2) as u64;
+    room < (n as u64) + rises - falls
 }
 
 // A batch that passed every test is taken.
@@ -46,17 +56,17 @@ fn apply_once(c: Counters, t: &mut [u64], b: &[u64]) -> Applied
     ensures { λ r. ⌜ changed r (now (t .exit)) ≡ batchCall c (now (t .entry)) (now (b .entry)) ⌝ }
 {
     let n = c.stored;
-    if counter_steps::any_false_old(t, n, b) {
+    if counter_checks::any_false_old(t, n, b) {
         return refused(c, Refusal::FalseOld);
     }
-    if counter_steps::off_total(
+    if counter_checks::off_total(
         c.live_cells,
         counter_steps::tally(b, Kind::Birth),
         counter_steps::tally(b, Kind::Death),
     ) {
         return refused(c, Refusal::OffTotal);
     }
-    if counter_steps::exceeds(
+    if exceeds(
         t,
         n,
         counter_steps::tally(b, Kind::Rise),
@@ -76,7 +86,7 @@ pub fn apply_batch_held(c: Counters, t: &mut [u64], b: &[u64]) -> Applied
     if b.len() % 3 != 0 {
         return refused(c, Refusal::Broken);
     }
-    if counter_steps::any_unallocated(b, c.next_idx.0) {
+    if counter_checks::any_unallocated(b, c.next_idx.0) {
         return refused(c, Refusal::Unallocated);
     }
     let n = c.stored;
@@ -90,7 +100,7 @@ pub fn apply_batch_held(c: Counters, t: &mut [u64], b: &[u64]) -> Applied
 pub fn apply_batch(c: Counters, t: &mut [u64], b: &[u64]) -> Applied
     ensures { λ r. ⌜ changed r (now (t .exit)) ≡ batchCall c (now (t .entry)) (now (b .entry)) ⌝ }
 {
-    if !counter_table::holds(c, t) {
+    if !counter_rows::holds(c, t) {
         return refused(c, Refusal::Broken);
     }
     apply_batch_held(c, t, b)

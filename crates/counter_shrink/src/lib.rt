@@ -215,7 +215,7 @@ pub fn shrink_held(c: Counters, t: &[u64], saved: u64) -> Shrunk
 pub fn shrink_if_needed(c: Counters, t: &[u64], saved: u64) -> Shrunk
     ensures { λ r. ⌜ r ≡ shrinkCall standard c (now (t .entry)) saved ⌝ }
 {
-    if !counter_table::holds(c, t) {
+    if !counter_rows::holds(c, t) {
         return Shrunk {
             answer: Answer::Refused(Refusal::Broken),
             alive: false,
