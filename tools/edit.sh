@@ -54,5 +54,11 @@ if rt dev "$crate" >said 2>&1; then
     exit 1
 fi
 grep -q '^logic=not-proved' said || { cat said; echo "BAD EDIT: $edit did not reach the prover"; exit 1; }
-echo "refused: $(grep -c ': error' said) errors, the first:"
-grep -m 1 -A 3 ': error' said | cut -c 1-700
+# where a function without a proof file fails, a note says what isn't proved, and the errors of its callers follow from that
+if grep -q 'it is not proved that' said; then
+    echo "refused:"
+    grep -m 1 'it is not proved that' said | cut -c 1-700
+else
+    echo "refused: $(grep -c ': error' said) errors, the first:"
+    grep -m 1 -A 3 ': error' said | cut -c 1-700
+fi

@@ -35,10 +35,10 @@ fn is_kind(kind: Kind, idx: u64, old: u64, new: u64) -> bool
             new <= 1
         }
         Kind::Clear(k) => {
-            if !counter_shrink::in_set(k, old) {
+            if !counter_sets::in_set(k, old) {
                 return false;
             }
-            !counter_shrink::in_set(k, new)
+            !counter_sets::in_set(k, new)
         }
     }
 }
@@ -119,7 +119,7 @@ fn grown_sets(b: &[u64], removed: [u64; 8]) -> [u64; 8]
     let mut small = [0u64; 8];
     let mut k = 0;
     while k < 8 {
-        small[k] = counter_shrink::grown(removed[k], tally(b, Kind::Clear(k as u32)));
+        small[k] = counter_sets::grown(removed[k], tally(b, Kind::Clear(k as u32)));
         k += 1;
     }
     small
@@ -132,7 +132,7 @@ pub fn maintained_by(b: &[u64], m: CounterMaintenance) -> CounterMaintenance
     let removed = m.small_removed_since_shrink;
     let small = grown_sets(b, removed);
     CounterMaintenance {
-        alive_removed_since_shrink: counter_shrink::grown(
+        alive_removed_since_shrink: counter_sets::grown(
             m.alive_removed_since_shrink,
             tally(b, Kind::Fall),
         ),

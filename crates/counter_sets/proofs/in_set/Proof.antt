@@ -1,7 +1,7 @@
 use Rattle.counters.specs.MaintenanceLaws.{low-count, large-count, no-set, bit-set}
 use borrow.Author.Needs.{needs}
-use Rattle.counter_shrink.proofs.in_set.Statement.{statement}
-use Rattle.counter_shrink.proofs.in_set.Tie as tie
+use Rattle.counter_sets.proofs.in_set.Statement.{statement}
+use Rattle.counter_sets.proofs.in_set.Tie as tie
 
 returns : tie.Need-returns
 returns c = let a = c .before .args in low-count (a .k) (a .n) (c .if1 .taken)

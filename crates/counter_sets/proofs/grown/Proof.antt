@@ -1,7 +1,7 @@
 use Rattle.counters.specs.Maintenance as maintenance
 use borrow.Author.Needs.{needs}
-use Rattle.counter_shrink.proofs.grown.Statement.{statement}
-use Rattle.counter_shrink.proofs.grown.Tie as tie
+use Rattle.counter_sets.proofs.grown.Statement.{statement}
+use Rattle.counter_sets.proofs.grown.Tie as tie
 
 sub-if1 : tie.Need-sub-if1
 sub-if1 c = search needs

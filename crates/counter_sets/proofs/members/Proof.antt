@@ -4,8 +4,8 @@ use mathlib.Core.Path.{_≡_, sym, _∙_}
 use Prim.Native.Nat.{_+_, _-_, _≤_}
 use native.Mathlib.Omega.{arith}
 use borrow.Author.Needs.{needs}
-use Rattle.counter_shrink.proofs.members.Statement.{statement}
-use Rattle.counter_shrink.proofs.members.Tie as tie
+use Rattle.counter_sets.proofs.members.Statement.{statement}
+use Rattle.counter_sets.proofs.members.Tie as tie
 
 abbrev Inv-loop : tie.InvT-loop
 Inv-loop t n k found₀ i₀ found i = (i ≤ n) × ((found ≤ i) × (found + membersFrom k n t i ≡ membersFrom k n t 0))
