@@ -6,12 +6,15 @@ use counters::Counters;
 use counters::Kind;
 ghost use mathlib.Core.Path.{_≡_};
 ghost use mathlib.Core.Bool.{true, false};
-ghost use Prim.Native.Nat.{_%_};
+ghost use Prim.Native.Nat.{_+_, _-_, _/_, _%_, _^_, _≤_, _<_};
+ghost use lib.Dec.{ltb};
 ghost use lib.ListN.{length};
 ghost use Rattle.base.specs.Logic.{any, repeated};
-ghost use Rattle.base.specs.declared.Answer.the-variants.{Refused};
+ghost use Rattle.base.specs.declared.Answer.the-variants.{Taken, Refused};
 ghost use Rattle.counters.specs.Layout as layout;
-ghost use Rattle.counters.specs.Batch.{kept, named, unallocated};
+ghost use Rattle.counters.specs.Layout.{recordOf, stateOf};
+ghost use Rattle.counters.specs.Batch.{kept, named, unallocated, stateAfter};
+ghost use Rattle.counters.specs.Held.{Judged};
 ghost use Rattle.counters.specs.Steps.{transitions};
 ghost use Rattle.counters.specs.Calls.{changed, batchCall};
 
@@ -25,6 +28,27 @@ fn refused(c: Counters, r: Refusal) -> Applied
     }
 }
 
+// 6: n rows, with those that come and without those that go, are more than the table has room for.
+fn exceeds(t: &[u64], n: usize, rises: u64, falls: u64) -> bool
+    requires { ⌜ (n + rises < 2 ^ 64) × (falls ≤ n + rises) ⌝ }
+    ensures { λ r. ⌜ r ≡ ltb (length (now (t .entry)) / 2) (n + rises - falls) ⌝ }
+{
+    let room = (t.len() / 2) as u64;
+    room < (n as u64) + rises - falls
+}
+
+// A batch that passed every test is taken.
+fn taken(c: Counters, t: &mut [u64], b: &[u64]) -> Applied
+    requires { ⌜ Judged c (now t) (now b) ⌝ }
+    ensures { λ r. ⌜ (r .answer ≡ Taken) × (r .counters ≡ recordOf (stateAfter (kept (transitions (now (b .entry)))) (stateOf c (now (t .entry))))) × (now (t .exit) ≡ layout.tableOf (length (now (t .entry))) (stateAfter (kept (transitions (now (b .entry)))) (stateOf c (now (t .entry))))) ⌝ }
+{
+    let counters = counter_apply::apply_kept(c, t, b);
+    Applied {
+        answer: Answer::Taken,
+        counters,
+    }
+}
+
 // A whole batch that names allocated indices, each once, on a table that holds a state: 5, 4, 6, each over the whole batch, before the first
 // write.
 fn apply_once(c: Counters, t: &mut [u64], b: &[u64]) -> Applied
@@ -32,17 +56,17 @@ fn apply_once(c: Counters, t: &mut [u64], b: &[u64]) -> Applied
     ensures { λ r. ⌜ changed r (now (t .exit)) ≡ batchCall c (now (t .entry)) (now (b .entry)) ⌝ }
 {
     let n = c.stored;
-    if counter_steps::any_false_old(t, n, b) {
+    if counter_checks::any_false_old(t, n, b) {
         return refused(c, Refusal::FalseOld);
     }
-    if counter_steps::off_total(
+    if counter_checks::off_total(
         c.live_cells,
         counter_steps::tally(b, Kind::Birth),
         counter_steps::tally(b, Kind::Death),
     ) {
         return refused(c, Refusal::OffTotal);
     }
-    if counter_steps::exceeds(
+    if exceeds(
         t,
         n,
         counter_steps::tally(b, Kind::Rise),
@@ -50,10 +74,7 @@ fn apply_once(c: Counters, t: &mut [u64], b: &[u64]) -> Applied
     ) {
         return refused(c, Refusal::TableFull);
     }
-    Applied {
-        answer: Answer::Taken,
-        counters: counter_apply::apply_kept(c, t, b),
-    }
+    taken(c, t, b)
 }
 
 // A batch on a table that holds a state: 20 for ragged words, then 2, 3, 5, 4, 6, each over the whole batch, before the first write. The
@@ -65,7 +86,7 @@ pub fn apply_batch_held(c: Counters, t: &mut [u64], b: &[u64]) -> Applied
     if b.len() % 3 != 0 {
         return refused(c, Refusal::Broken);
     }
-    if counter_steps::any_unallocated(b, c.next_idx.0) {
+    if counter_checks::any_unallocated(b, c.next_idx.0) {
         return refused(c, Refusal::Unallocated);
     }
     let n = c.stored;
@@ -79,7 +100,7 @@ pub fn apply_batch_held(c: Counters, t: &mut [u64], b: &[u64]) -> Applied
 pub fn apply_batch(c: Counters, t: &mut [u64], b: &[u64]) -> Applied
     ensures { λ r. ⌜ changed r (now (t .exit)) ≡ batchCall c (now (t .entry)) (now (b .entry)) ⌝ }
 {
-    if !counter_table::holds(c, t) {
+    if !counter_rows::holds(c, t) {
         return refused(c, Refusal::Broken);
     }
     apply_batch_held(c, t, b)

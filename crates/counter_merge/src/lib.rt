@@ -148,7 +148,7 @@ fn put_one(t: &mut [u64], n: usize, at: usize, s: usize, idx: u64, old: u64, new
         if replace(&mut t[..at], n, idx, new) {
             return s;
         }
-        return counter_table::set_count(&mut t[at..], s, idx, new);
+        return counter_rows::set_count(&mut t[at..], s, idx, new);
     }
     s
 }

@@ -80,11 +80,11 @@ fn sums_with(t: &[u64], c: Counters, a: Sums, idx: u64, old: u64, new: u64) -> S
     Sums {
         unallocated: either(
             a.unallocated,
-            counter_steps::is_unallocated(c.next_idx.0, idx, old, new),
+            counter_checks::is_unallocated(c.next_idx.0, idx, old, new),
         ),
         false_old: either(
             a.false_old,
-            counter_steps::is_false_old(t, c.stored, idx, old, new),
+            counter_checks::is_false_old(t, c.stored, idx, old, new),
         ),
         births: a.births + counter_steps::counts(Kind::Birth, idx, old, new),
         deaths: a.deaths + counter_steps::counts(Kind::Death, idx, old, new),
@@ -210,7 +210,7 @@ fn judged(t: &[u64], s: Walk) -> Walk
     if sums.false_old {
         return ended(s, Refusal::FalseOld);
     }
-    if counter_steps::off_total(c.live_cells, sums.births, sums.deaths) {
+    if counter_checks::off_total(c.live_cells, sums.births, sums.deaths) {
         return ended(s, Refusal::OffTotal);
     }
     if (t.len() / 2) as u64 + sums.falls < c.stored as u64 + sums.rises {
@@ -264,7 +264,7 @@ fn begin(c: Counters, t: &mut [u64], len: usize) -> Walk
     ensures { λ w. ⌜ (w ≡ begun c (now (t .entry)) len) × (now (t .exit) ≡ now (t .entry)) ⌝ }
 {
     let s = start(c, len);
-    if !counter_table::holds(c, t) {
+    if !counter_rows::holds(c, t) {
         return ended(s, Refusal::Broken);
     }
     on_to(t, s, 0)
@@ -314,7 +314,7 @@ fn ask_again(t: &[u64], s: Walk, idx: u64, old: u64, new: u64) -> Walk
         len: s.len,
         of: s.of,
         seek: s.seek,
-        repeated: either(s.repeated, counter_steps::is_named(s.seek, idx, old, new)),
+        repeated: either(s.repeated, counter_checks::is_named(s.seek, idx, old, new)),
         sums,
         rows: s.rows,
         answer,

@@ -48,11 +48,11 @@ pub fn any_repeated(t: &mut [u64], n: usize, b: &[u64]) -> bool
 {
     let m = b.len() / 3;
     if m < FEW {
-        return counter_steps::any_repeated(b);
+        return counter_checks::any_repeated(b);
     }
     let at = n * 2;
     if (t.len() - at) / 2 < m {
-        return counter_steps::any_repeated(b);
+        return counter_checks::any_repeated(b);
     }
     sorted_repeated(&mut t[at..], b)
 }

@@ -1,4 +1,4 @@
-// Maintenance: which sets a count is in, the removal counts, and when to shrink.
+// Maintenance: when to shrink, and what is left of the removal counts.
 use base::Answer;
 use base::Refusal;
 use counters::CounterMaintenance;
@@ -11,16 +11,11 @@ ghost use lib.ListN.{length};
 ghost use Rattle.base.specs.Logic.{pick};
 ghost use Rattle.rows.specs.Table.{rowsOf};
 ghost use Rattle.counters.specs.Counts as counts;
-ghost use Rattle.counters.specs.Counts.{inSet};
 ghost use Rattle.counters.specs.Layout.{countRow};
 ghost use Rattle.counters.specs.Layout as layout;
 ghost use Rattle.counters.specs.Calls.{shrinkCall};
-ghost use Rattle.counters.specs.Maintenance as maintenance;
 ghost use Rattle.counters.specs.Maintenance.{standard, setMinimum, shouldShrink, adjustShrinkThreshold, setsShrink, resetWhere, shrunk};
 ghost use Rattle.counters.specs.MaintenanceLaws.{adjusted};
-
-// A removal count stops here.
-const MAX64: u64 = 0xffff_ffff_ffff_ffff;
 
 // The alive threshold starts here, and starts again after a good save.
 const BASE: u64 = 131_072;
@@ -33,32 +28,6 @@ const GOOD_SAVE: u64 = 1_048_576;
 
 // A set doesn't shrink before so many removals.
 const SET_MINIMUM: u64 = 65_536;
-
-// Whether set k has an index with the count n. A count from 2 to 256 lies as count - 1 over eight sets.
-pub fn in_set(k: u32, n: u64) -> bool
-    ensures { λ r. ⌜ r ≡ inSet k n ⌝ }
-{
-    if n < 2 {
-        return false;
-    }
-    if 256 < n {
-        return false;
-    }
-    if 8 <= k {
-        return false;
-    }
-    ((n - 1) >> k) % 2 == 1
-}
-
-// A removal count grown by n; it stops at the largest number.
-pub fn grown(removed: u64, n: u64) -> u64
-    ensures { λ r. ⌜ r ≡ maintenance.grown removed n ⌝ }
-{
-    if MAX64 - removed < n {
-        return MAX64;
-    }
-    removed + n
-}
 
 // Whether to shrink what holds alive items. 3 × removed could be too large a number, so a third of alive is compared.
 pub fn should_shrink(alive: u64, removed_since_shrink: u64, min_removed: u64) -> bool
@@ -103,22 +72,6 @@ pub fn adjust_shrink_threshold(
     after
 }
 
-// How many of the first n counts are in set k: a pass over the table.
-fn members(t: &[u64], n: usize, k: u32) -> u64
-    requires { ⌜ n * 2 ≤ length (now t) ⌝ }
-    ensures { λ r. ⌜ r ≡ length (counts.members k (rowsOf countRow n (now (t .entry)))) ⌝ }
-{
-    let mut found = 0;
-    let mut i = 0;
-    while i < n {
-        if in_set(k, t[i * 2 + 1]) {
-            found += 1;
-        }
-        i += 1;
-    }
-    found
-}
-
 // Whether set k shrinks. Where nothing was removed it doesn't, and its members aren't counted.
 fn should_shrink_set(t: &[u64], n: usize, k: u32, removed: u64) -> bool
     requires { ⌜ n * 2 ≤ length (now t) ⌝ }
@@ -127,7 +80,7 @@ fn should_shrink_set(t: &[u64], n: usize, k: u32, removed: u64) -> bool
     if removed == 0 {
         return false;
     }
-    should_shrink(members(t, n, k), removed, SET_MINIMUM)
+    should_shrink(counter_sets::members(t, n, k), removed, SET_MINIMUM)
 }
 
 // Which of the eight sets shrink, by their removal counts.
@@ -215,7 +168,7 @@ pub fn shrink_held(c: Counters, t: &[u64], saved: u64) -> Shrunk
 pub fn shrink_if_needed(c: Counters, t: &[u64], saved: u64) -> Shrunk
     ensures { λ r. ⌜ r ≡ shrinkCall standard c (now (t .entry)) saved ⌝ }
 {
-    if !counter_table::holds(c, t) {
+    if !counter_rows::holds(c, t) {
         return Shrunk {
             answer: Answer::Refused(Refusal::Broken),
             alive: false,

@@ -6,7 +6,7 @@ use base::Answer;
 use base::Refusal;
 use base::Wrote;
 use byte_numbers::write_le64;
-use counter_table::holds;
+use counter_rows::holds;
 use counters::Counters;
 use roaring_write::length64;
 use roaring_write::write64;

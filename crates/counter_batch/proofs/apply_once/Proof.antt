@@ -84,8 +84,8 @@ returns-3 c =
     let r = sym (c .before .before .exceeds .ensures ∙ room-test (a .c) (a .t .now) (a .b .now) (p .0) (p .1) (p .2) (p .3) o (z .result) (w .result) (z .ensures) (w .ensures)) ∙ c .before .if3 .taken in
     rw (c .refused3 .ensures) (judge-full (a .c) (a .t .now) (a .b .now) (p .0) (p .1) (p .2) (p .3) o q r)
 
-apply-kept-requires : tie.Need-apply-kept-requires
-apply-kept-requires c κs =
+taken-requires : tie.Need-taken-requires
+taken-requires c κs =
     let a = c .before .before .before .before .before .before .before .before .before .before .before .before .before .before .before .args in
     let p = c .before .before .before .before .before .before .before .before .before .before .before .before .before .before .before .pre in
     let o = sym (c .before .before .before .before .before .before .before .before .before .before .before .any-false-old .ensures) ∙ c .before .before .before .before .before .before .before .before .before .before .if1 .left in
@@ -111,8 +111,8 @@ returns-4 c =
     let z = c .before .before .before .before .before .before .before .tally3 in
     let w = c .before .before .before .before .before .before .tally4 in
     let r = sym (c .before .before .before .before .before .exceeds .ensures ∙ room-test (a .c) (a .t .now) (a .b .now) (p .0) (p .1) (p .2) (p .3) o (z .result) (w .result) (z .ensures) (w .ensures)) ∙ c .before .before .before .before .if3 .left in
-    let k = c .before .before .apply-kept in
-    rw (k .ensures .0, k .ensures .1) (judge-taken (a .c) (a .t .now) (a .b .now) (p .0) (p .1) (p .2) (p .3) o q r)
+    let k = c .before .before .taken in
+    rw (k .ensures .0, k .ensures .1, k .ensures .2) (judge-taken (a .c) (a .t .now) (a .b .now) (p .0) (p .1) (p .2) (p .3) o q r)
 
 pub apply-once-spec : {M : Type 1} → statement M
 apply-once-spec =
@@ -134,6 +134,6 @@ apply-once-spec =
     refused-requires-3
     same-length-3
     returns-3
-    apply-kept-requires
+    taken-requires
     same-length-4
     returns-4)
