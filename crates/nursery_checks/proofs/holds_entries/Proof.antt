@@ -1,4 +1,4 @@
--- `nursery_table::holds_entries` meets its contract: test after test.
+-- `nursery_checks::holds_entries` meets its contract: test after test.
 -- Assumes nothing.
 use borrow.Author.Tests.{not-true, not-false}
 use Rattle.cell_nursery.specs.CheckLaws.{entries-not-laid, entries-not-ascending, entries-by-fields}
@@ -6,8 +6,8 @@ use Rattle.rows.specs.TableLaws.{holds-laid}
 use mathlib.Core.Path.{sym, _∙_}
 use native.Mathlib.Omega.{arith}
 use borrow.Author.Needs.{needs}
-use Rattle.nursery_table.proofs.holds_entries.Statement.{statement}
-use Rattle.nursery_table.proofs.holds_entries.Tie as tie
+use Rattle.nursery_checks.proofs.holds_entries.Statement.{statement}
+use Rattle.nursery_checks.proofs.holds_entries.Tie as tie
 
 holds-rows-requires : tie.Need-holds-rows-requires
 holds-rows-requires c κs = search needs

@@ -1,10 +1,10 @@
--- `nursery_table::holds_cells` meets its contract.
+-- `nursery_checks::holds_cells` meets its contract.
 -- Assumes nothing.
 use Rattle.cell_nursery.specs.CheckLaws.{cells-past, cells-by-zeros}
 use mathlib.Core.Path.{_∙_}
 use borrow.Author.Needs.{needs}
-use Rattle.nursery_table.proofs.holds_cells.Statement.{statement}
-use Rattle.nursery_table.proofs.holds_cells.Tie as tie
+use Rattle.nursery_checks.proofs.holds_cells.Statement.{statement}
+use Rattle.nursery_checks.proofs.holds_cells.Tie as tie
 
 returns : tie.Need-returns
 returns c = let a = c .before .before .args in cells-past (a .r) (a .cs .now) (c .if1 .taken)

@@ -1,11 +1,11 @@
--- `nursery_table::holds` meets its contract: test after test.
+-- `nursery_checks::holds` meets its contract: test after test.
 -- Assumes nothing.
 use borrow.Author.Tests.{not-true, not-false}
 use Rattle.cell_nursery.specs.CheckLaws.{holds-not-entries, holds-not-waiting, holds-not-cells, holds-narrow, holds-room}
 use mathlib.Core.Path.{sym, _∙_}
 use borrow.Author.Needs.{needs}
-use Rattle.nursery_table.proofs.holds.Statement.{statement}
-use Rattle.nursery_table.proofs.holds.Tie as tie
+use Rattle.nursery_checks.proofs.holds.Statement.{statement}
+use Rattle.nursery_checks.proofs.holds.Tie as tie
 
 holds-entries-requires : tie.Need-holds-entries-requires
 holds-entries-requires c κs = search needs

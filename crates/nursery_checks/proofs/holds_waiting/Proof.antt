@@ -1,12 +1,12 @@
--- `nursery_table::holds_waiting` meets its contract: test after test.
+-- `nursery_checks::holds_waiting` meets its contract: test after test.
 -- Assumes nothing.
 use borrow.Author.Tests.{not-true, not-false}
 use Rattle.cell_nursery.specs.CheckLaws.{waiting-not-laid, waiting-by-rounds}
 use Rattle.rows.specs.TableLaws.{holds-laid}
 use mathlib.Core.Path.{sym, _∙_}
 use borrow.Author.Needs.{needs}
-use Rattle.nursery_table.proofs.holds_waiting.Statement.{statement}
-use Rattle.nursery_table.proofs.holds_waiting.Tie as tie
+use Rattle.nursery_checks.proofs.holds_waiting.Statement.{statement}
+use Rattle.nursery_checks.proofs.holds_waiting.Tie as tie
 
 holds-rows-requires : tie.Need-holds-rows-requires
 holds-rows-requires c κs = search needs

@@ -1,4 +1,4 @@
--- `nursery_drain::row_len` meets its contract.
+-- `drain_rows::row_len` meets its contract.
 -- Assumes nothing.
 use Rattle.cell_nursery.specs.PrefixLaws.{handed-length, handed-none}
 use Rattle.cell_nursery.specs.OutputLaws.{row-fits}
@@ -6,8 +6,8 @@ use Rattle.cell_nursery.specs.CheckLaws.{waiterAtRow}
 use lib.ListN.{length}
 use mathlib.Core.Path.{sym, ap}
 use native.Mathlib.Omega.{arith}
-use Rattle.nursery_drain.proofs.row_len.Statement.{statement}
-use Rattle.nursery_drain.proofs.row_len.Tie as tie
+use Rattle.drain_rows.proofs.row_len.Statement.{statement}
+use Rattle.drain_rows.proofs.row_len.Tie as tie
 
 promoted-row-requires : tie.Need-promoted-row-requires
 promoted-row-requires c κs = let s = c .before .before .before in (s .pre .0, s .pre .2)

@@ -1,4 +1,4 @@
--- `nursery_table::rounds_hold` meets its contract. The invariant: the test of all rows is that of the rows from i on, none below lo.
+-- `nursery_checks::rounds_hold` meets its contract. The invariant: the test of all rows is that of the rows from i on, none below lo.
 -- Assumes nothing.
 use lib.ListN.{drop}
 use Rattle.cell_nursery.specs.Layout.{waitingRow}
@@ -8,8 +8,8 @@ use mathlib.Core.Path.{_≡_, sym, _∙_}
 use Prim.Native.Nat.{_-_, _≤_}
 use native.Mathlib.Omega.{arith}
 use borrow.Author.Needs.{needs}
-use Rattle.nursery_table.proofs.rounds_hold.Statement.{statement}
-use Rattle.nursery_table.proofs.rounds_hold.Tie as tie
+use Rattle.nursery_checks.proofs.rounds_hold.Statement.{statement}
+use Rattle.nursery_checks.proofs.rounds_hold.Tie as tie
 
 abbrev Inv-loop : tie.InvT-loop
 Inv-loop t n i₀ lo₀ i lo = (i ≤ n) × (roundsHold 0 (rowsOf waitingRow n t) ≡ roundsHold lo (drop i (rowsOf waitingRow n t)))

@@ -1,4 +1,4 @@
--- `nursery_drain::due_rows` meets its contract: the place of the first round that is not due.
+-- `drain_rows::due_rows` meets its contract: the place of the first round that is not due.
 -- Assumes nothing.
 use Rattle.cell_nursery.specs.PrefixLaws.{due-early, due-late}
 use Rattle.rows.specs.Keys.{firstWord, keys, place}
@@ -6,8 +6,8 @@ use native.Mathlib.Numerals.{add-one}
 use mathlib.Core.Path.{ap, _∙_}
 use Prim.Native.Nat.{ℕ, _-_}
 use borrow.Author.Needs.{needs}
-use Rattle.nursery_drain.proofs.due_rows.Statement.{statement}
-use Rattle.nursery_drain.proofs.due_rows.Tie as tie
+use Rattle.drain_rows.proofs.due_rows.Statement.{statement}
+use Rattle.drain_rows.proofs.due_rows.Tie as tie
 
 returns : tie.Need-returns
 returns c = let s = c .before .before in due-early 100 (s .args .round) (s .args .r) (s .args .ws .now) (s .pre) (c .if1 .taken)

@@ -1,4 +1,4 @@
--- `nursery_drain::write_rows` meets its contract. The invariant: the bytes of the first i rows stand at the start.
+-- `drain_rows::write_rows` meets its contract. The invariant: the bytes of the first i rows stand at the start.
 -- Assumes nothing.
 use Rattle.cell_nursery.specs.PrefixLaws.{handedOut, waiter-of-row}
 use Rattle.cell_nursery.specs.OutputLaws.{flat-within, length-next, paste-next, paste-all}
@@ -13,8 +13,8 @@ use mathlib.Core.Path.{_≡_, refl, sym, ap, _∙_}
 use Prim.Native.Nat.{ℕ, _-_, _≤_}
 use native.Mathlib.Omega.{arith}
 use borrow.Author.Needs.{needs}
-use Rattle.nursery_drain.proofs.write_rows.Statement.{statement}
-use Rattle.nursery_drain.proofs.write_rows.Tie as tie
+use Rattle.drain_rows.proofs.write_rows.Statement.{statement}
+use Rattle.drain_rows.proofs.write_rows.Tie as tie
 
 abbrev Inv-loop : tie.InvT-loop
 Inv-loop r es ws cs k out₀ i₀ at₀ out i at = (i ≤ k) × (at ≡ length (flat (handedOut (entriesOf (r .entries) es cs)) (take i (take k (waitingOf (r .waiting) ws))))) × (out ≡ paste out₀ 0 (flat (handedOut (entriesOf (r .entries) es cs)) (take i (take k (waitingOf (r .waiting) ws)))) at) × (length out ≡ length out₀)

@@ -1,4 +1,4 @@
--- `nursery_table::fields_hold` meets its contract. The invariant: the test of all rows is that of the rows from i on, the cells from `place` on.
+-- `nursery_checks::fields_hold` meets its contract. The invariant: the test of all rows is that of the rows from i on, the cells from `place` on.
 -- Assumes nothing.
 use lib.ListN.{drop}
 use Rattle.cell_nursery.specs.Layout.{entryRow}
@@ -8,8 +8,8 @@ use mathlib.Core.Path.{_≡_, sym, _∙_}
 use Prim.Native.Nat.{_-_, _≤_}
 use native.Mathlib.Omega.{arith}
 use borrow.Author.Needs.{needs}
-use Rattle.nursery_table.proofs.fields_hold.Statement.{statement}
-use Rattle.nursery_table.proofs.fields_hold.Tie as tie
+use Rattle.nursery_checks.proofs.fields_hold.Statement.{statement}
+use Rattle.nursery_checks.proofs.fields_hold.Tie as tie
 
 abbrev Inv-loop : tie.InvT-loop
 Inv-loop t n bytes i₀ place₀ i place = (i ≤ n) × (place ≤ bytes) × (fieldsHold 0 bytes (rowsOf entryRow n t) ≡ fieldsHold place bytes (drop i (rowsOf entryRow n t)))

@@ -1,4 +1,4 @@
--- `nursery_drain::promoted_row` meets its contract: the row of the hash, where the rounds agree.
+-- `drain_rows::promoted_row` meets its contract: the row of the hash, where the rounds agree.
 -- Assumes nothing.
 use Rattle.cell_nursery.specs.PrefixLaws.{waiter-key, index-within, row-same-round, row-other-round, row-missing}
 use Rattle.cell_nursery.specs.CheckLaws.{waiterAtRow}
@@ -10,8 +10,8 @@ use mathlib.Core.Path.{_≡_, ap, _∙_}
 use Prim.Native.Nat.{ℕ, _+_, _*_}
 use native.Mathlib.Omega.{arith}
 use borrow.Author.Needs.{needs}
-use Rattle.nursery_drain.proofs.promoted_row.Statement.{statement}
-use Rattle.nursery_drain.proofs.promoted_row.Tie as tie
+use Rattle.drain_rows.proofs.promoted_row.Statement.{statement}
+use Rattle.drain_rows.proofs.promoted_row.Tie as tie
 
 -- the row that the search gives, by the waiting row's hash
 row : (c : tie.After-find-hash) → let a = c .before .before .before .before .args in c .find-hash .result ≡ indexOf (hashOf (hashAt (a .i * 5 + 1) (a .ws .now))) (keys firstFour 8 (a .r .entries) (a .es .now))

@@ -1,4 +1,4 @@
--- `nursery_drain::rows_fit` meets its contract. The invariant: what is left and the bytes of the first i rows make the room.
+-- `drain_rows::rows_fit` meets its contract. The invariant: what is left and the bytes of the first i rows make the room.
 -- Assumes nothing.
 use lib.ListN.{length, take}
 use mathlib.Core.List.{[]}
@@ -15,8 +15,8 @@ use mathlib.Core.Path.{_≡_, refl, sym, ap, _∙_}
 use Prim.Native.Nat.{ℕ, _+_, _-_, _≤_}
 use native.Mathlib.Omega.{arith}
 use borrow.Author.Needs.{needs}
-use Rattle.nursery_drain.proofs.rows_fit.Statement.{statement}
-use Rattle.nursery_drain.proofs.rows_fit.Tie as tie
+use Rattle.drain_rows.proofs.rows_fit.Statement.{statement}
+use Rattle.drain_rows.proofs.rows_fit.Tie as tie
 
 abbrev Inv-loop : tie.InvT-loop
 Inv-loop r es ws cs k room i₀ left₀ i left = (i ≤ k) × (left + length (flat (handedOut (entriesOf (r .entries) es cs)) (take i (take k (waitingOf (r .waiting) ws)))) ≡ room)

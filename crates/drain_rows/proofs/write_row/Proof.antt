@@ -1,4 +1,4 @@
--- `nursery_drain::write_row` meets its contract: two pastes side by side, or none.
+-- `drain_rows::write_row` meets its contract: two pastes side by side, or none.
 -- Assumes nothing.
 use Rattle.cell_nursery.specs.PrefixLaws.{handed-length, handed-some, handed-none}
 use Rattle.cell_nursery.specs.OutputLaws.{row-fits, promoted-written}
@@ -10,8 +10,8 @@ use mathlib.Core.Path.{sym, ap, _∙_}
 use Prim.Native.Nat.{ℕ, _+_, _*_}
 use native.Mathlib.Omega.{arith}
 use borrow.Author.Needs.{needs}
-use Rattle.nursery_drain.proofs.write_row.Statement.{statement}
-use Rattle.nursery_drain.proofs.write_row.Tie as tie
+use Rattle.drain_rows.proofs.write_row.Statement.{statement}
+use Rattle.drain_rows.proofs.write_row.Tie as tie
 
 promoted-row-requires : tie.Need-promoted-row-requires
 promoted-row-requires c κs = let s = c .before .before .before .before in (s .pre .0 .0, s .pre .0 .2)
