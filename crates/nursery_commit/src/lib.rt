@@ -85,7 +85,7 @@ pub fn apply_commit(
 ) -> Committed
     ensures { λ c. ⌜ changed c (now (es .exit)) (now (ws .exit)) (now (cs .exit)) ≡ deltaCall r (now (es .entry)) (now (ws .entry)) (now (cs .entry)) wide inserts removes (now (items .entry)) ⌝ }
 {
-    if !nursery_table::holds(r, es, ws, cs) {
+    if !nursery_checks::holds(r, es, ws, cs) {
         return refused(Refusal::Broken, r);
     }
     apply_commit_held(r, es, ws, cs, wide, inserts, removes, items)

@@ -97,10 +97,10 @@ pub fn snapshot_entries(r: Nursery, es: &[u64], cs: &[u8], out: &mut [u8]) -> Wr
         answer: Answer::Refused(Refusal::Broken),
         len: 0,
     };
-    if !nursery_table::holds_entries(r, es) {
+    if !nursery_checks::holds_entries(r, es) {
         return broken;
     }
-    if !nursery_table::holds_cells(r, cs) {
+    if !nursery_checks::holds_cells(r, cs) {
         return broken;
     }
     snapshot_entries_held(r, es, cs, out)

@@ -28,6 +28,9 @@ ghost use Rattle.snapshot_write.specs.PartLaws.{setsFrom, largeFrom};
 // The first byte of a snapshot.
 const VERSION: u8 = 1;
 
+// How many sets hold the small tier.
+const SETS: u32 = 8;
+
 // The lowest count of the large tier.
 const FIRST_LARGE: u64 = 257;
 
@@ -38,7 +41,7 @@ fn sets_len(t: &[u64], n: usize) -> usize
 {
     let mut len = 0;
     let mut k: u32 = 0;
-    while k < 8 {
+    while k < SETS {
         len += 8 + length64(t, n, k);
         k += 1;
     }
@@ -105,7 +108,7 @@ fn write_sets(out: &mut [u8], at: usize, t: &[u64], n: usize) -> usize
 {
     let mut p = at;
     let mut k: u32 = 0;
-    while k < 8 {
+    while k < SETS {
         p = write_set(out, p, t, n, k);
         k += 1;
     }
