@@ -52,7 +52,7 @@ def main():
     wrong += [line for edit in there for line in misplaced(edit)]
     for line in wrong:
         print(line)
-    print(f"{len(there)} edits, {len(wrong)} of them wrong" if wrong else f"{len(there)} edits, each named in docs/MAP.md")
+    print(f"{len(there)} edits, {len(wrong)} faults" if wrong else f"{len(there)} edits, each named in docs/MAP.md")
     return 1 if wrong else 0
 
 
