@@ -44,9 +44,9 @@ if [ -n "$program" ]; then
     if [ "$program" != "$crate" ]; then rm "crates/$program"; cp -R "$root/crates/$program" "crates/$program"; fi
     [ -z "$input" ] || { cp "$input" "crates/$program/stdin"; rm -f "crates/$program/stdout"; }
     rt try "$program" >said 2>&1 && { echo "$program writes what it should"; exit 0; }
-    # what the first of the ways to run it wrote
-    printf '%b\n' "$(sed -n 's/^on standard output.* found "\(.*\)"$/\1/p' said | head -n 1)"
-    grep -q '^on standard output' said || cat said
+    # where the first of the ways to run it wrote something else, up to 200 bytes
+    found=$(sed -nE 's/^on standard output, (at byte [0-9]+), expected "(.*)"( \([^)]*\))?, found "(.*)"( \([^)]*\))?$/\1 in place of\\n\2\\nit writes\\n\4/p' said | head -n 1)
+    if [ -n "$found" ]; then printf '%b\n' "$found"; else cat said; fi
     exit 0
 fi
 if rt dev "$crate" >said 2>&1; then
