@@ -1,4 +1,4 @@
-//! A list of steps with the original's answers, for crates/original_answers to replay where no Rust is at hand.
+//! A list of steps with the original's answers, for crates/vectors to replay where no Rust is at hand.
 use std::fmt::Write;
 use std::sync::Arc;
 
@@ -11,11 +11,11 @@ use crate::roaring::Broken;
 use crate::steps::{Delta, Hex, Insert, Sizes, Step};
 use crate::storage::shard_state::original::Original;
 
-/// What the program that replays the list has room for.
+/// A box that the program that replays the list has room for.
 const SIZES: Sizes =
     Sizes { next: (1 << 32) + 3, counts: 128, entries: 256, waiting: 160, cells: 2_048, stripes: 1, held: false };
 
-/// The program counts on it.
+/// How many there are, beside those that look at what a step left.
 const STEPS: usize = 300;
 
 /// Bytes of a call.
@@ -23,15 +23,13 @@ fn longest(step: &Step) -> usize {
     match step {
         Step::Journal { .. } => 1_200,
         Step::Read(_) => 460,
+        Step::Encode(..) => 289,
         _ => 280,
     }
 }
 
-/// Bytes of the list.
-const ROOM: usize = 70_000;
-
-/// Bytes of an answer.
-const LONGEST_ANSWER: usize = 1_400;
+/// Bytes of a list that the program has room for.
+const ROOM: usize = 280_000;
 
 /// At most so many of a kind, by its place in `KINDS`: snapshots are long.
 fn most(step: &Step) -> usize {
@@ -70,12 +68,9 @@ fn fits(step: &Step, sides: &Sides) -> bool {
     }
 }
 
-fn payload(id: u64, delta: &Delta) -> Vec<u8> {
-    let mut out = id.to_le_bytes().to_vec();
-    out.extend((delta.inserts.len() as u32).to_le_bytes());
-    out.extend((delta.removes.len() as u32).to_le_bytes());
-    out.extend(items(delta, false));
-    out
+/// How many inserts and removes there are.
+fn counts(delta: &Delta) -> [u64; 2] {
+    [delta.inserts.len() as u64, delta.removes.len() as u64]
 }
 
 fn words(all: &[u64]) -> Vec<u8> {
@@ -88,25 +83,25 @@ fn listing(entries: &[Insert]) -> Vec<u8> {
     out
 }
 
-/// The call's number in the list, and its bytes.
+/// A call's kind and its bytes; src/main.rt of the program says what they are.
 fn call(step: &Step, journal: &[u8]) -> (u8, Vec<u8>) {
     match step {
-        Step::Allocate => (1, Vec::new()),
-        Step::Batch(batch) => (2, words(&batch.concat())),
-        Step::Delta(delta) => (3, payload(0, delta)),
-        Step::Drain(round, _) => (4, round.to_le_bytes().to_vec()),
-        Step::Get(idx) => (5, words(&[*idx])),
-        Step::Shrink(saved) => (6, words(&[*saved])),
-        Step::Snapshot(_) => (7, Vec::new()),
-        Step::Read(bytes) => (8, bytes.clone()),
-        Step::Lookup(hash) => (9, hash.to_vec()),
-        Step::Listing(_) => (10, Vec::new()),
-        Step::Encode(id, delta, _) => (11, payload(*id, delta)),
-        Step::Decode(bytes) => (12, bytes.clone()),
-        Step::Journal { .. } => (13, journal.to_vec()),
-        Step::Hash(bytes) => (14, bytes.clone()),
-        Step::ShouldShrink(all) => (15, words(all)),
-        Step::Adjust(all) => (16, words(all)),
+        Step::Batch(batch) => (0x02, words(&batch.concat())),
+        Step::Read(bytes) => (0x03, bytes.clone()),
+        Step::Allocate => (0x05, Vec::new()),
+        Step::Shrink(saved) => (0x06, words(&[*saved])),
+        Step::Get(idx) => (0x07, words(&[*idx])),
+        Step::Snapshot(_) => (0x08, Vec::new()),
+        Step::Delta(delta) => (0x10, [words(&counts(delta)), items(delta, false)].concat()),
+        Step::Drain(round, _) => (0x12, words(&[u64::from(*round)])),
+        Step::Journal { .. } => (0x11, journal.to_vec()),
+        Step::Lookup(hash) => (0x13, hash.to_vec()),
+        Step::Listing(_) => (0x15, Vec::new()),
+        Step::Hash(bytes) => (0x20, bytes.clone()),
+        Step::Encode(id, delta, _) => (0x22, [words(&[*id]), words(&counts(delta)), vec![0], items(delta, false)].concat()),
+        Step::Decode(bytes) => (0x23, bytes.clone()),
+        Step::ShouldShrink(all) => (0x25, words(all)),
+        Step::Adjust(all) => (0x26, words(all)),
         other => unreachable!("{other}"),
     }
 }
@@ -114,34 +109,62 @@ fn call(step: &Step, journal: &[u8]) -> (u8, Vec<u8>) {
 /// What the original says to it.
 fn answer(o: &mut Original, step: &Step, journal: &[u8]) -> Vec<u8> {
     match step {
-        Step::Allocate => _ = o.alloc_idx(),
         Step::Batch(batch) => o.apply_batch(batch),
-        Step::Delta(delta) => o.apply_commit(delta),
-        Step::Drain(round, _) => return drained(o, *round),
-        Step::Get(idx) => return words(&[o.get(*idx)]),
-        Step::Shrink(saved) => {
-            o.shrink_if_needed(*saved);
-            return words(&o.totals()[3..]);
-        }
+        Step::Read(bytes) => return vec![o.deserialize_trusted(bytes).map_or_else(|said| compare::number_of(&said), |()| 0)],
+        Step::Allocate => return taken(&[o.alloc_idx()]),
+        Step::Shrink(saved) => o.shrink_if_needed(*saved),
+        Step::Get(idx) => return taken(&[o.get(*idx)]),
         Step::Snapshot(_) => {
             let (snapshot, large) = o.serialize();
-            return compare::sorted(&snapshot, large);
+            return written(&compare::sorted(&snapshot, large));
         }
-        Step::Read(bytes) => match o.deserialize_trusted(bytes) {
-            Ok(()) => return [vec![0], words(&o.totals()[..3])].concat(),
-            Err(said) => return vec![compare::number_of(&said)],
-        },
-        Step::Lookup(hash) => return o.lookup(hash).map_or(Vec::new(), |(idx, cell)| [words(&[idx]), cell].concat()),
-        Step::Listing(_) => return listing(&o.snapshot_entries()),
-        Step::Encode(id, delta, _) => return Original::encode_record(*id, delta).0,
-        Step::Decode(bytes) => return decoded(o, bytes),
+        Step::Delta(delta) => {
+            o.apply_commit(delta);
+            return taken(&[0, 0]);
+        }
+        Step::Drain(round, _) => return written(&drained(o, *round)),
         Step::Journal { .. } => return read_journal(o, journal),
+        Step::Lookup(hash) => return taken(&o.lookup(hash).map_or([0, 0], |(idx, _)| [1, idx])),
+        Step::Listing(_) => return written(&listing(&o.snapshot_entries())),
         Step::Hash(bytes) => return Original::hash(bytes).to_vec(),
-        Step::ShouldShrink([alive, removed, min]) => return words(&[u64::from(Original::should_shrink(*alive, *removed, *min))]),
+        Step::Encode(id, delta, _) => {
+            let (record, stats) = Original::encode_record(*id, delta);
+            return [taken(&[record.len() as u64]), words(&stats), record, vec![UNTOUCHED]].concat();
+        }
+        Step::Decode(bytes) => return decoded(o, bytes),
+        Step::ShouldShrink([alive, removed, min]) => return vec![u8::from(Original::should_shrink(*alive, *removed, *min))],
         Step::Adjust([min, saved]) => return words(&[Original::adjust_shrink_threshold(*min, *saved)]),
         other => unreachable!("{other}"),
     }
-    words(&[&o.totals()[..3], &o.nursery_totals()].concat())
+    vec![0]
+}
+
+/// What a byte of an output is before a call; each has one more than the call writes.
+const UNTOUCHED: u8 = 0x99;
+
+/// 0, and the words that a call gives.
+fn taken(all: &[u64]) -> Vec<u8> {
+    [vec![0], words(all)].concat()
+}
+
+fn written(bytes: &[u8]) -> Vec<u8> {
+    [taken(&[bytes.len() as u64]), bytes.to_vec(), vec![UNTOUCHED]].concat()
+}
+
+/// Calls that look at what a step left, with their answers.
+fn looks(o: &Original, step: &Step) -> Vec<((u8, Vec<u8>), Vec<u8>)> {
+    let record = ((0x0a, Vec::new()), taken(&o.totals()));
+    let totals = ((0x16, Vec::new()), taken(&o.nursery_totals()));
+    match step {
+        Step::Allocate | Step::Batch(_) | Step::Delta(_) => vec![record, totals],
+        Step::Read(_) | Step::Shrink(_) => vec![record],
+        Step::Journal { .. } => vec![((0x15, Vec::new()), written(&listing(&o.snapshot_entries())))],
+        Step::Lookup(hash) => {
+            let cell = o.lookup(hash).map_or(taken(&[0]), |(_, cell)| [taken(&[1]), cell].concat());
+            vec![((0x14, hash.to_vec()), cell)]
+        }
+        _ => Vec::new(),
+    }
 }
 
 fn drained(o: &mut Original, round: u32) -> Vec<u8> {
@@ -155,12 +178,20 @@ fn drained(o: &mut Original, round: u32) -> Vec<u8> {
     out
 }
 
+/// Id, place and length of the items, five figures, hash; zeros beside a refusal.
 fn decoded(o: &mut Original, bytes: &[u8]) -> Vec<u8> {
     match o.decode_record(bytes) {
-        Ok(d) => [vec![0], words(&[d.id]), words(&d.stats), d.hash.to_vec()].concat(),
-        Err(said) if said.contains("mismatch") => vec![18],
-        Err(said) if said.contains("too big") => vec![17],
-        Err(_) => vec![16],
+        Ok(d) => [taken(&[d.id, 56, d.stats[0] - 16]), words(&d.stats), d.hash.to_vec()].concat(),
+        Err(said) => {
+            let number = if said.contains("mismatch") {
+                18
+            } else if said.contains("too big") {
+                17
+            } else {
+                16
+            };
+            [vec![number], vec![0; 96]].concat()
+        }
     }
 }
 
@@ -170,9 +201,9 @@ fn read_journal(o: &mut Original, journal: &[u8]) -> Vec<u8> {
     while o.read_records(journal, records + 1, false).is_ok() {
         records += 1;
     }
-    let (entries, place) = o.read_records(journal, records, true).unwrap();
+    let (_, place) = o.read_records(journal, records, true).unwrap();
     let number = if place == journal.len() { 0 } else { 16 };
-    [vec![number], words(&[records as u64, place as u64]), listing(&entries)].concat()
+    [vec![number], words(&[records as u64, place as u64])].concat()
 }
 
 /// The steps, each with the journal that it reads.
@@ -193,22 +224,27 @@ fn steps(seed: u64, pool: Arc<ThreadPool>) -> Vec<(Step, Vec<u8>)> {
     all
 }
 
+/// The two lines of a step.
+fn lines(text: &mut String, (kind, bytes): &(u8, Vec<u8>), answer: &[u8]) {
+    let hex = |bytes: &[u8]| if bytes.is_empty() { String::new() } else { Hex(bytes).to_string() };
+    writeln!(text, "{kind:02x}{}\n{}", hex(bytes), hex(answer)).unwrap();
+}
+
 pub fn write(path: &str, seed: u64, pool: Arc<ThreadPool>) {
     let steps = steps(seed, pool.clone());
     let mut o = Original::new(SIZES.next, SIZES.stripes, pool);
     let mut text = format!(
-        "# Calls and what the original Rust answers to them, one after the other on one box. Made by `differential/run.sh --sample --seed {seed}`,\n\
-         # which runs the original's files unchanged; the large counts of its snapshots are put in order of their indices. Two lines a step, in hex:\n\
-         # the kind of the call and its bytes; the answer.\n"
+        "# Calls and what the original Rust answers to them, one after the other on one box. Made by `differential/run.sh --sample --seed {seed}`, which\n\
+         # runs the original's files unchanged; the large counts of its snapshots are put in order of their indices.\n"
     );
+    lines(&mut text, &(0x01, words(&[SIZES.next])), &[0]);
     for (step, journal) in &steps {
-        let (kind, bytes) = call(step, journal);
-        let answer = answer(&mut o, step, journal);
-        assert!(answer.len() <= LONGEST_ANSWER, "a long answer: take another seed");
-        let hex = |bytes: &[u8]| if bytes.is_empty() { String::new() } else { Hex(bytes).to_string() };
-        writeln!(text, "{kind:02x}{}\n{}", hex(&bytes), hex(&answer)).unwrap();
+        lines(&mut text, &call(step, journal), &answer(&mut o, step, journal));
+        for (call, answer) in looks(&o, step) {
+            lines(&mut text, &call, &answer);
+        }
     }
-    assert!(text.len() <= ROOM, "a long list: take another seed");
+    assert!(text.len() < ROOM, "a long list: take another seed");
     std::fs::write(path, text).expect(path);
     println!("{} steps written to {path}", steps.len());
 }

@@ -1,0 +1,164 @@
+// Whether bytes are a 64-bit Roaring bitmap, and its members.
+use crate::answers::NONE;
+use crate::answers::byte;
+use crate::answers::put;
+use crate::answers::put_bytes;
+use crate::answers::put_words;
+use crate::answers::text_room;
+use crate::answers::word;
+use crate::files::read_file;
+use roaring_check::is_bitmap64;
+use roaring_cursor::Step;
+use roaring_cursor::next;
+use roaring_cursor::start;
+
+// More members than any bitmap of the list has.
+const MANY: u64 = 10000000;
+
+// Members that go on by one step, which the first two give: the first, the step, how many there are, and the last.
+struct Row {
+    first: u64,
+    step: u64,
+    count: u64,
+    last: u64,
+}
+
+// Whether the row goes on with a member.
+fn goes_on(r: Row, x: u64) -> bool {
+    if r.count == 1 {
+        return true;
+    }
+    r.count != 0 && std::num::wrapping_sub_u64(x, r.last) == r.step
+}
+
+// The row with a member more, or the row that begins with it.
+fn with(r: Row, x: u64) -> Row {
+    if !goes_on(r, x) {
+        return Row {
+            first: x,
+            step: 0,
+            count: 1,
+            last: x,
+        };
+    }
+    Row {
+        first: r.first,
+        step: std::num::wrapping_sub_u64(x, r.last),
+        count: std::num::wrapping_add_u64(r.count, 1),
+        last: x,
+    }
+}
+
+// A row that has ended goes into the answer.
+fn put_row(out: &mut [u8], at: usize, r: Row) -> usize {
+    if r.count == 0 {
+        return at;
+    }
+    put_words(out, at, &[r.first, r.step, r.count])
+}
+
+fn put_ended(out: &mut [u8], at: usize, r: Row, x: u64) -> usize {
+    if goes_on(r, x) {
+        return at;
+    }
+    put_row(out, at, r)
+}
+
+// 0, or 1 and the members in rows: first, step and how many of each.
+fn members(s: &[u8], out: &mut [u8]) -> usize {
+    if !is_bitmap64(s) {
+        return put(out, 0, &[]);
+    }
+    let mut c = start(s);
+    let mut r = Row {
+        first: 0,
+        step: 0,
+        count: 0,
+        last: 0,
+    };
+    let mut at = put(out, 1, &[]);
+    let mut n: u64 = 0;
+    while n < MANY {
+        let Step::Member(x, d) = next(s, c) else {
+            return put_row(out, at, r);
+        };
+        at = put_ended(out, at, r, x);
+        r = with(r, x);
+        c = d;
+        n += 1;
+    }
+    NONE
+}
+
+fn change(buf: &mut [u8], at: u64, value: u8) {
+    if at < buf.len() as u64 {
+        buf[at as usize] = value;
+    }
+}
+
+// The call has a place, two bytes that stand there then, and the name of a file. No byte is changed at a place behind the last one.
+fn file(call: &[u8], out: &mut [u8]) -> usize {
+    if call.len() < 10 {
+        return NONE;
+    }
+    let mut buf = text_room();
+    let n = read_file(&call[10..], &mut buf);
+    let at = word(call, 0);
+    change(&mut buf, at, call[8]);
+    change(&mut buf, std::num::wrapping_add_u64(at, 1), call[9]);
+    members(&buf[0..n], out)
+}
+
+fn counted(n: u64, yes: bool) -> u64 {
+    if yes {
+        return std::num::wrapping_add_u64(n, 1);
+    }
+    n
+}
+
+// How many of the shorter starts of the bytes are bitmaps.
+fn starts_taken(s: &[u8]) -> u64 {
+    let mut n: u64 = 0;
+    let mut i = 0;
+    while i < s.len() {
+        n = counted(n, is_bitmap64(&s[0..i]));
+        i += 1;
+    }
+    n
+}
+
+// How many bitmaps there are with one byte left out; first `gap` is without the first byte.
+fn gaps_taken(s: &[u8], gap: &mut [u8]) -> u64 {
+    let mut n: u64 = 0;
+    let mut i = 0;
+    while i < gap.len() {
+        n = counted(n, is_bitmap64(gap));
+        gap[i] = byte(s, i);
+        i += 1;
+    }
+    counted(n, is_bitmap64(gap))
+}
+
+// How many bytes there are; how many bitmaps they give, cut at each place, and with a byte left out at each place.
+fn parts(s: &[u8], out: &mut [u8]) -> usize {
+    let mut gap = [0u8; 128];
+    if s.len() < 1 {
+        return NONE;
+    }
+    if 128 < s.len() {
+        return NONE;
+    }
+    put_bytes(&mut gap, 0, &s[1..]);
+    let n = s.len() - 1;
+    let gaps = gaps_taken(s, &mut gap[0..n]);
+    put(out, 0, &[s.len() as u64, starts_taken(s), gaps])
+}
+
+pub(crate) fn answer(kind: u8, call: &[u8], out: &mut [u8]) -> usize {
+    match kind {
+        48 => members(call, out),
+        49 => file(call, out),
+        50 => parts(call, out),
+        _ => NONE,
+    }
+}
