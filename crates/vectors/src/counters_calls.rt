@@ -15,7 +15,7 @@ use snapshot_abi::selvaigo_serialize;
 ghost use Prim.Native.Nat.{_≤_};
 ghost use lib.ListN.{length};
 
-fn alloc_idx(state: &mut [u64], out: &mut [u8]) -> usize {
+fn alloc_idx(state: &mut [u64; 13], out: &mut [u8]) -> usize {
     let mut idx = [0u64; 1];
     let number = selvaigo_alloc_idx(state, &mut idx);
     put_one(out, number, &idx)
@@ -36,13 +36,13 @@ fn words(call: &[u8], out: &mut [u64]) -> usize
     n
 }
 
-fn apply_batch(state: &mut [u64], counts: &mut [u64], call: &[u8]) -> u8 {
+fn apply_batch(state: &mut [u64; 13], counts: &mut [u64; 8201], call: &[u8]) -> u8 {
     let mut batch = counts_room();
     let n = words(call, &mut batch);
     selvaigo_apply_batch(state, counts, &batch[0..n])
 }
 
-fn shrink(state: &mut [u64], counts: &[u64], saved: u64) -> u8 {
+fn shrink(state: &mut [u64; 13], counts: &[u64], saved: u64) -> u8 {
     let mut shrunk = [0u64; 9];
     selvaigo_shrink_if_needed(state, counts, saved, &mut shrunk)
 }
@@ -68,14 +68,14 @@ fn fill(t: &mut [u64], call: &[u8], from: usize) {
 }
 
 // The record and the table take the words of the call; its last one goes on to the end.
-fn set(state: &mut [u64], counts: &mut [u64], call: &[u8]) -> u8 {
+fn set(state: &mut [u64; 13], counts: &mut [u64; 8201], call: &[u8]) -> u8 {
     fill(state, call, 0);
     fill(counts, call, 13);
     0
 }
 
 // Calls that may change the table.
-fn change(kind: u8, state: &mut [u64], counts: &mut [u64], call: &[u8]) -> u8 {
+fn change(kind: u8, state: &mut [u64; 13], counts: &mut [u64; 8201], call: &[u8]) -> u8 {
     match kind {
         1 => selvaigo_new(word(call, 0), state, counts),
         2 => apply_batch(state, counts, call),
@@ -134,8 +134,8 @@ fn read(kind: u8, state: &[u64], counts: &[u64], call: &[u8], out: &mut [u8]) ->
 
 pub(crate) fn answer(
     kind: u8,
-    state: &mut [u64],
-    counts: &mut [u64],
+    state: &mut [u64; 13],
+    counts: &mut [u64; 8201],
     call: &[u8],
     out: &mut [u8],
 ) -> usize {

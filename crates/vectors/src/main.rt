@@ -54,12 +54,12 @@ use lines::line_end;
 // The answer to a call; its length.
 fn answer(
     call: &[u8],
-    state: &mut [u64],
-    counts: &mut [u64],
-    nursery: &mut [u64],
-    entries: &mut [u64],
-    waiting: &mut [u64],
-    cells: &mut [u8],
+    state: &mut [u64; 13],
+    counts: &mut [u64; 8201],
+    nursery: &mut [u64; 3],
+    entries: &mut [u64; 256],
+    waiting: &mut [u64; 160],
+    cells: &mut [u8; 2048],
     out: &mut [u8],
 ) -> usize {
     if call.len() < 1 {
@@ -80,12 +80,12 @@ fn answer(
 fn answered(
     call: &[u8],
     wanted: &[u8],
-    state: &mut [u64],
-    counts: &mut [u64],
-    nursery: &mut [u64],
-    entries: &mut [u64],
-    waiting: &mut [u64],
-    cells: &mut [u8],
+    state: &mut [u64; 13],
+    counts: &mut [u64; 8201],
+    nursery: &mut [u64; 3],
+    entries: &mut [u64; 256],
+    waiting: &mut [u64; 160],
+    cells: &mut [u8; 2048],
 ) -> bool {
     let mut room = room();
     let m = wanted.len();
@@ -101,12 +101,12 @@ fn answered(
 fn agrees(
     call: &[u8],
     wanted: &[u8],
-    state: &mut [u64],
-    counts: &mut [u64],
-    nursery: &mut [u64],
-    entries: &mut [u64],
-    waiting: &mut [u64],
-    cells: &mut [u8],
+    state: &mut [u64; 13],
+    counts: &mut [u64; 8201],
+    nursery: &mut [u64; 3],
+    entries: &mut [u64; 256],
+    waiting: &mut [u64; 160],
+    cells: &mut [u8; 2048],
 ) -> bool {
     let mut a = room();
     let mut b = room();

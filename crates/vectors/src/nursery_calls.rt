@@ -22,10 +22,10 @@ struct Said {
 
 // The call has the numbers of inserts and removes, and the items.
 fn apply_commit(
-    nursery: &mut [u64],
-    entries: &mut [u64],
-    waiting: &mut [u64],
-    cells: &mut [u8],
+    nursery: &mut [u64; 3],
+    entries: &mut [u64; 256],
+    waiting: &mut [u64; 160],
+    cells: &mut [u8; 2048],
     call: &[u8],
 ) -> u8 {
     if call.len() < 16 {
@@ -38,10 +38,10 @@ fn apply_commit(
 }
 
 fn read_journal(
-    nursery: &mut [u64],
-    entries: &mut [u64],
-    waiting: &mut [u64],
-    cells: &mut [u8],
+    nursery: &mut [u64; 3],
+    entries: &mut [u64; 256],
+    waiting: &mut [u64; 160],
+    cells: &mut [u8; 2048],
     call: &[u8],
 ) -> Said {
     let mut read = [0u64; 2];
@@ -56,10 +56,10 @@ fn read_journal(
 // Calls that change the entries.
 fn change(
     kind: u8,
-    nursery: &mut [u64],
-    entries: &mut [u64],
-    waiting: &mut [u64],
-    cells: &mut [u8],
+    nursery: &mut [u64; 3],
+    entries: &mut [u64; 256],
+    waiting: &mut [u64; 160],
+    cells: &mut [u8; 2048],
     call: &[u8],
 ) -> Said {
     if kind == 17 {
@@ -77,9 +77,9 @@ fn put_said(out: &mut [u8], said: Said) -> usize {
 }
 
 fn drain(
-    nursery: &mut [u64],
+    nursery: &mut [u64; 3],
     entries: &[u64],
-    waiting: &mut [u64],
+    waiting: &mut [u64; 160],
     cells: &[u8],
     round: u64,
     out: &mut [u8],
@@ -169,10 +169,10 @@ fn read(
 
 pub(crate) fn answer(
     kind: u8,
-    nursery: &mut [u64],
-    entries: &mut [u64],
-    waiting: &mut [u64],
-    cells: &mut [u8],
+    nursery: &mut [u64; 3],
+    entries: &mut [u64; 256],
+    waiting: &mut [u64; 160],
+    cells: &mut [u8; 2048],
     call: &[u8],
     out: &mut [u8],
 ) -> usize {

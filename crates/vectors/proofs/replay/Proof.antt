@@ -1,14 +1,13 @@
--- `vectors::replay`: a step after the other, each at a place within the list; the box stays as large as it is.
+-- `vectors::replay`: TODO
 -- Assumes nothing.
 use Prim.Native.Nat.{_-_, _≤_}
-use mathlib.Core.Path.{_≡_}
 use borrow.Author.Needs.{needs}
 use lib.ListN.{length}
 use Rattle.vectors.proofs.replay.Statement.{statement}
 use Rattle.vectors.proofs.replay.Tie as tie
 
 abbrev Inv-loop : tie.InvT-loop
-Inv-loop name s state₀ counts₀ nursery₀ entries₀ waiting₀ cells₀ t₀ at₀ state counts nursery entries waiting cells t at = (at ≤ length s) × (13 ≡ length state) × (8201 ≡ length counts) × (3 ≡ length nursery) × (256 ≡ length entries) × (160 ≡ length waiting) × (2048 ≡ length cells)
+Inv-loop name s state₀ counts₀ nursery₀ entries₀ waiting₀ cells₀ t₀ at₀ state counts nursery entries waiting cells t at = at ≤ length s
 
 abbrev μ-loop : tie.MeasureT-loop
 μ-loop name s state₀ counts₀ nursery₀ entries₀ waiting₀ cells₀ t₀ at₀ state counts nursery entries waiting cells t at = length s - at
@@ -26,12 +25,6 @@ replay-spec =
     (λ c κs. search needs)
     (λ c. search needs)
     (λ c κs. search needs)
-    (λ c. search needs)
-    (λ c. search needs)
-    (λ c. search needs)
-    (λ c. search needs)
-    (λ c. search needs)
-    (λ c. search needs)
     (λ c. search needs)
     (λ c. search needs)
     (λ c. search needs)
