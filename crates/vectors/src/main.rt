@@ -31,7 +31,6 @@
 // | 26 | threshold, bytes saved | the threshold after it (a word) |
 // | 30 | bytes | 0 where they are no bitmap; else 1, then first, step and number of its members' rows |
 // | 31 | place and two bytes to change, name of a file | the same of the file |
-// | 32 | bytes | 0, how many, and how many bitmaps they are, cut at each place, and with each byte left out |
 mod answers;
 mod bitmap_calls;
 mod counters_calls;
