@@ -168,7 +168,7 @@ fn report(name: &[u8], t: Tally) {
     say(b" answers agree\n");
 }
 
-// The steps of a list, one after the other on one box: room for 32 entries and 2,048 cell bytes.
+// The steps of a list, one after the other on one box, whose zeros are an empty nursery with room for 32 entries and 2,048 cell bytes.
 fn replay(name: &[u8], s: &[u8]) {
     let mut state = [0u64; 13];
     let mut counts = counts_room();
