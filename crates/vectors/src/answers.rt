@@ -29,11 +29,6 @@ pub(crate) fn counts_room() -> [u64; 8201]
     [0; 8201]
 }
 
-// The byte at a place, and 0 behind the last one.
-pub(crate) fn byte(call: &[u8], at: usize) -> u8 {
-    if at < call.len() { call[at] } else { 0 }
-}
-
 // The word at a place, and 0 where it isn't all there.
 pub(crate) fn word(call: &[u8], at: usize) -> u64 {
     if call.len() < at {

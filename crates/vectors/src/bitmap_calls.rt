@@ -1,8 +1,6 @@
 // Whether bytes are a 64-bit Roaring bitmap, and its members.
 use crate::answers::NONE;
-use crate::answers::byte;
 use crate::answers::put;
-use crate::answers::put_bytes;
 use crate::answers::put_words;
 use crate::answers::text_room;
 use crate::answers::word;
@@ -109,56 +107,10 @@ fn file(call: &[u8], out: &mut [u8]) -> usize {
     members(&buf[0..n], out)
 }
 
-fn counted(n: u64, yes: bool) -> u64 {
-    if yes {
-        return std::num::wrapping_add_u64(n, 1);
-    }
-    n
-}
-
-// How many of the shorter starts of the bytes are bitmaps.
-fn starts_taken(s: &[u8]) -> u64 {
-    let mut n: u64 = 0;
-    let mut i = 0;
-    while i < s.len() {
-        n = counted(n, is_bitmap64(&s[0..i]));
-        i += 1;
-    }
-    n
-}
-
-// How many bitmaps there are with one byte left out; first `gap` is without the first byte.
-fn gaps_taken(s: &[u8], gap: &mut [u8]) -> u64 {
-    let mut n: u64 = 0;
-    let mut i = 0;
-    while i < gap.len() {
-        n = counted(n, is_bitmap64(gap));
-        gap[i] = byte(s, i);
-        i += 1;
-    }
-    counted(n, is_bitmap64(gap))
-}
-
-// How many bytes there are; how many bitmaps they give, cut at each place, and with a byte left out at each place.
-fn parts(s: &[u8], out: &mut [u8]) -> usize {
-    let mut gap = [0u8; 128];
-    if s.len() < 1 {
-        return NONE;
-    }
-    if 128 < s.len() {
-        return NONE;
-    }
-    put_bytes(&mut gap, 0, &s[1..]);
-    let n = s.len() - 1;
-    let gaps = gaps_taken(s, &mut gap[0..n]);
-    put(out, 0, &[s.len() as u64, starts_taken(s), gaps])
-}
-
 pub(crate) fn answer(kind: u8, call: &[u8], out: &mut [u8]) -> usize {
     match kind {
         48 => members(call, out),
         49 => file(call, out),
-        50 => parts(call, out),
         _ => NONE,
     }
 }

@@ -21,27 +21,6 @@ fn alloc_idx(state: &mut [u64; 13], out: &mut [u8]) -> usize {
     put_one(out, number, &idx)
 }
 
-// The words that a call has, as far as there is room.
-fn words(call: &[u8], out: &mut [u64]) -> usize
-    ensures { λ r. ⌜ r ≤ length (now (out .exit)) ⌝ }
-{
-    let mut n = 0;
-    while n < call.len() / 8 {
-        if out.len() <= n {
-            return n;
-        }
-        out[n] = word(call, 8 * n);
-        n += 1;
-    }
-    n
-}
-
-fn apply_batch(state: &mut [u64; 13], counts: &mut [u64; 8201], call: &[u8]) -> u8 {
-    let mut batch = counts_room();
-    let n = words(call, &mut batch);
-    selvaigo_apply_batch(state, counts, &batch[0..n])
-}
-
 fn shrink(state: &mut [u64; 13], counts: &[u64], saved: u64) -> u8 {
     let mut shrunk = [0u64; 9];
     selvaigo_shrink_if_needed(state, counts, saved, &mut shrunk)
@@ -65,6 +44,17 @@ fn fill(t: &mut [u64], call: &[u8], from: usize) {
         t[i] = word_or_last(call, std::num::wrapping_add_usize(from, i));
         i += 1;
     }
+}
+
+fn apply_batch(state: &mut [u64; 13], counts: &mut [u64; 8201], call: &[u8]) -> u8 {
+    let mut room = counts_room();
+    let n = call.len() / 8;
+    if 8201 < n {
+        return 255;
+    }
+    let batch = &mut room[0..n];
+    fill(batch, call, 0);
+    selvaigo_apply_batch(state, counts, batch)
 }
 
 // The record and the table take the words of the call; its last one goes on to the end.

@@ -31,7 +31,6 @@
 // | 26 | threshold, bytes saved | the threshold after it (a word) |
 // | 30 | bytes | 0 where they are no bitmap; else 1, then first, step and number of its members' rows |
 // | 31 | place and two bytes to change, name of a file | the same of the file |
-// | 32 | bytes | 0, how many, and how many bitmaps they are, cut at each place, and with each byte left out |
 mod answers;
 mod bitmap_calls;
 mod counters_calls;
@@ -169,7 +168,7 @@ fn report(name: &[u8], t: Tally) {
     say(b" answers agree\n");
 }
 
-// The steps of a list, one after the other on one box: room for 32 entries and 2,048 cell bytes.
+// The steps of a list, one after the other on one box, whose zeros are an empty nursery with room for 32 entries and 2,048 cell bytes.
 fn replay(name: &[u8], s: &[u8]) {
     let mut state = [0u64; 13];
     let mut counts = counts_room();
