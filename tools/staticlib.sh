@@ -6,7 +6,7 @@
 # Each family of calls is a crate with an archive of its own, which exports that family and nothing else. Needs ar.
 set -eu
 cd "$(dirname "$0")/.."
-families="counters_abi shrink_abi snapshot_abi nursery_abi entries_abi record_abi"
+families="counters_abi batch_abi shrink_abi snapshot_abi nursery_abi drain_abi entries_abi listing_abi record_abi reading_abi"
 folder=target/staticlib
 library=$folder/libselvaigo.a
 mkdir -p "$folder"
@@ -23,4 +23,4 @@ rm -f "$library.new"
     echo END
 } | ar -M
 mv "$library.new" "$library"
-echo "$library has the calls of all six"
+echo "$library has the calls of all ten"

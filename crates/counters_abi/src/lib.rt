@@ -1,8 +1,7 @@
-// The counters' calls as C functions: a new state, an index handed out, a count, a batch. include/selvaigo.h declares them. A slice passes as a
+// The counters' calls as C functions: a new state, an index handed out, a count. include/selvaigo.h declares them. A slice passes as a
 // pointer and a length, an array as a pointer. A state record is lent as its words of docs/LAYOUT.md; a slice of another length is 20.
 use counters::Idx;
 use counters::NextIdx;
-use state_steps::put_applied;
 use state_steps::put_got;
 use state_words::broken;
 use state_words::counters_of;
@@ -13,7 +12,7 @@ ghost use mathlib.Core.List.{[], _∷_};
 ghost use lib.ListN.{length};
 ghost use Rattle.counters.specs.Layout as layout;
 ghost use Rattle.state_words.specs.Words.{countersOf, said};
-ghost use Rattle.word_calls.specs.CountersSaid.{newSaid, allocSaid, getSaid, batchSaid};
+ghost use Rattle.word_calls.specs.CountersSaid.{newSaid, allocSaid, getSaid};
 
 // Counters with nothing stored, whose next index is handed over.
 #[no_mangle]
@@ -74,32 +73,4 @@ pub extern "C" fn selvaigo_get_held(
     let c = counters_of(state);
     let x = counter_table::get_held(c, counts, Idx(idx));
     put_got(x, count)
-}
-
-// A batch of transitions.
-#[no_mangle]
-pub extern "C" fn selvaigo_apply_batch(state: &mut [u64], counts: &mut [u64], batch: &[u64]) -> u8
-    ensures { λ r. ⌜ said r [] (now (state .exit) ∷ now (counts .exit) ∷ []) ≡ batchSaid (now (state .entry)) (now (counts .entry)) (now (batch .entry)) ⌝ }
-{
-    if state.len() != 13 {
-        return broken();
-    }
-    let c = counters_of(state);
-    let x = counter_batch::apply_batch(c, counts, batch);
-    put_applied(x, state)
-}
-
-// The same, where the record and the table hold a state.
-#[no_mangle]
-pub extern "C" fn selvaigo_apply_batch_held(
-    state: &mut [u64],
-    counts: &mut [u64],
-    batch: &[u64],
-) -> u8
-    requires { ⌜ (length (now state) ≡ 13) × (layout.holds (countersOf (now state)) (now counts) ≡ true) ⌝ }
-    ensures { λ r. ⌜ said r [] (now (state .exit) ∷ now (counts .exit) ∷ []) ≡ batchSaid (now (state .entry)) (now (counts .entry)) (now (batch .entry)) ⌝ }
-{
-    let c = counters_of(state);
-    let x = counter_batch::apply_batch_held(c, counts, batch);
-    put_applied(x, state)
 }

@@ -4,7 +4,6 @@
 use nursery_commit::apply_commit;
 use nursery_commit::apply_commit_held;
 use state_steps::put_committed;
-use state_steps::put_drained;
 use state_words::broken;
 use state_words::nursery_of;
 ghost use mathlib.Core.Path.{_≡_};
@@ -13,7 +12,7 @@ ghost use mathlib.Core.List.{[], _∷_};
 ghost use lib.ListN.{length};
 ghost use Rattle.cell_nursery.specs.Layout.{holds};
 ghost use Rattle.state_words.specs.Words.{nurseryOf, said};
-ghost use Rattle.word_calls.specs.NurserySaid.{emptySaid, commitSaid, drainSaid};
+ghost use Rattle.word_calls.specs.NurserySaid.{emptySaid, commitSaid};
 
 // An empty nursery.
 #[no_mangle]
@@ -74,45 +73,4 @@ pub extern "C" fn selvaigo_apply_commit_held(
     let w = wide != 0;
     let x = apply_commit_held(r, entries, waiting, cells, w, inserts, removes, items);
     put_committed(x, nursery)
-}
-
-// What is due for promotion at a round, written into the output.
-#[no_mangle]
-pub extern "C" fn selvaigo_drain_promotable(
-    nursery: &mut [u64],
-    entries: &[u64],
-    waiting: &mut [u64],
-    cells: &[u8],
-    round: u32,
-    out: &mut [u8],
-    len: &mut [u64; 1],
-) -> u8
-    ensures { λ r. ⌜ said r (now (len .exit) ∷ []) (now (nursery .exit) ∷ now (waiting .exit) ∷ now (out .exit) ∷ []) ≡ drainSaid (now (nursery .entry)) (now (entries .entry)) (now (waiting .entry)) (now (cells .entry)) round (now (out .entry)) ⌝ }
-{
-    if nursery.len() != 3 {
-        *len = [0];
-        return broken();
-    }
-    let r = nursery_of(nursery);
-    let x = nursery_drain::drain_promotable(r, entries, waiting, cells, round, out);
-    put_drained(x, nursery, len)
-}
-
-// The same, where the record and the tables hold a state.
-#[no_mangle]
-pub extern "C" fn selvaigo_drain_promotable_held(
-    nursery: &mut [u64],
-    entries: &[u64],
-    waiting: &mut [u64],
-    cells: &[u8],
-    round: u32,
-    out: &mut [u8],
-    len: &mut [u64; 1],
-) -> u8
-    requires { ⌜ (length (now nursery) ≡ 3) × (holds (nurseryOf (now nursery)) (now entries) (now waiting) (now cells) ≡ true) ⌝ }
-    ensures { λ r. ⌜ said r (now (len .exit) ∷ []) (now (nursery .exit) ∷ now (waiting .exit) ∷ now (out .exit) ∷ []) ≡ drainSaid (now (nursery .entry)) (now (entries .entry)) (now (waiting .entry)) (now (cells .entry)) round (now (out .entry)) ⌝ }
-{
-    let r = nursery_of(nursery);
-    let x = nursery_drain::drain_promotable_held(r, entries, waiting, cells, round, out);
-    put_drained(x, nursery, len)
 }

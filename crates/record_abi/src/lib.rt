@@ -1,11 +1,9 @@
-// Hash, records and journals as C functions; include/selvaigo.h declares them. A slice passes as a pointer and a length, an array as a pointer.
-use state_words::broken;
-use state_words::put_nursery;
+// Hash and records as C functions; include/selvaigo.h declares them. A slice passes as a pointer and a length, an array as a pointer.
 ghost use mathlib.Core.Path.{_≡_};
 ghost use mathlib.Core.List.{[], _∷_};
 ghost use Rattle.blake3.specs.Spec as blake3;
 ghost use Rattle.state_words.specs.Words.{said};
-ghost use Rattle.word_calls.specs.RecordSaid.{encodeSaid, decodeSaid, journalSaid};
+ghost use Rattle.word_calls.specs.RecordSaid.{encodeSaid, decodeSaid};
 
 // The hash of bytes.
 #[no_mangle]
@@ -66,28 +64,5 @@ pub extern "C" fn selvaigo_decode_record(
     let h = x.hash;
     *hash = h;
     let a = x.answer;
-    a.number()
-}
-
-// A journal, read into an empty nursery in tables of any content.
-#[no_mangle]
-pub extern "C" fn selvaigo_read_journal(
-    journal: &[u8],
-    nursery: &mut [u64],
-    entries: &mut [u64],
-    waiting: &mut [u64],
-    cells: &mut [u8],
-    read: &mut [u64; 2],
-) -> u8
-    ensures { λ r. ⌜ said r (now (read .exit) ∷ []) (now (nursery .exit) ∷ now (entries .exit) ∷ now (waiting .exit) ∷ now (cells .exit) ∷ []) ≡ journalSaid (now (journal .entry)) (now (nursery .entry)) (now (entries .entry)) (now (waiting .entry)) (now (cells .entry)) ⌝ }
-{
-    if nursery.len() != 3 {
-        *read = [0; 2];
-        return broken();
-    }
-    let x = journal_read::read_journal(journal, entries, waiting, cells);
-    *read = [x.applied as u64, x.place as u64];
-    put_nursery(nursery, x.nursery);
-    let a = x.ended;
     a.number()
 }

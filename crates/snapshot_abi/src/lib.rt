@@ -1,16 +1,14 @@
 // The counters' snapshots as C functions, lent as in counters_abi; include/selvaigo.h declares them.
-use base::Answer;
 use state_steps::put_wrote;
 use state_words::broken;
 use state_words::counters_of;
-use state_words::put_counters;
 ghost use mathlib.Core.Path.{_≡_};
 ghost use mathlib.Core.Bool.{true};
 ghost use mathlib.Core.List.{[], _∷_};
 ghost use lib.ListN.{length};
 ghost use Rattle.counters.specs.Layout as layout;
 ghost use Rattle.state_words.specs.Words.{countersOf, said};
-ghost use Rattle.word_calls.specs.CountersSaid.{lengthSaid, serializeSaid, deserializeSaid};
+ghost use Rattle.word_calls.specs.CountersSaid.{lengthSaid, serializeSaid};
 
 // How many bytes the snapshot takes.
 #[no_mangle]
@@ -75,28 +73,4 @@ pub extern "C" fn selvaigo_serialize_held(
     let c = counters_of(state);
     let x = snapshot_write::serialize_held(c, counts, out);
     put_wrote(x, len)
-}
-
-// The state that a snapshot holds, into a record and a table of any content. A refusal changes neither.
-#[no_mangle]
-pub extern "C" fn selvaigo_deserialize_trusted(
-    snapshot: &[u8],
-    state: &mut [u64],
-    counts: &mut [u64],
-) -> u8
-    ensures { λ r. ⌜ said r [] (now (state .exit) ∷ now (counts .exit) ∷ []) ≡ deserializeSaid (now (snapshot .entry)) (now (state .entry)) (now (counts .entry)) ⌝ }
-{
-    if state.len() != 13 {
-        return broken();
-    }
-    let x = snapshot_read::deserialize_trusted(snapshot, counts);
-    let a = x.answer;
-    match a {
-        Answer::Taken => {
-            let c = x.counters;
-            put_counters(state, c);
-            0
-        }
-        Answer::Refused(q) => q.number(),
-    }
 }

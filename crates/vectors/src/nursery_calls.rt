@@ -6,12 +6,12 @@ use crate::answers::put_one;
 use crate::answers::put_two;
 use crate::answers::word;
 use byte_slices::copy_at;
+use drain_abi::selvaigo_drain_promotable;
 use entries_abi::selvaigo_get_data;
 use entries_abi::selvaigo_get_idx;
-use entries_abi::selvaigo_snapshot_entries;
+use listing_abi::selvaigo_snapshot_entries;
 use nursery_abi::selvaigo_apply_commit;
-use nursery_abi::selvaigo_drain_promotable;
-use record_abi::selvaigo_read_journal;
+use reading_abi::selvaigo_read_journal;
 
 // The number and the two words that a call gives.
 struct Said {

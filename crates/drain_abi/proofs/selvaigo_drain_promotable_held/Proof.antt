@@ -1,14 +1,14 @@
--- `nursery_abi::selvaigo_drain_promotable_held` meets its contract: the call under it, over words. Assumes nothing.
+-- `drain_abi::selvaigo_drain_promotable_held` meets its contract: the call under it, over words. Assumes nothing.
 use lib.ListN.{length}
 use borrow.Author.Tests.{eq-eqb}
 use Rattle.state_words.specs.Words.{overNursery}
 use Rattle.word_calls.specs.NurserySaid.{drainSaid}
 use Rattle.word_calls.specs.NurserySaidLaws.{drained-said}
 use borrow.Author.Needs.{needs}
-use Rattle.nursery_abi.proofs.selvaigo_drain_promotable_held.Statement.{
+use Rattle.drain_abi.proofs.selvaigo_drain_promotable_held.Statement.{
   statement,
 }
-use Rattle.nursery_abi.proofs.selvaigo_drain_promotable_held.Tie as tie
+use Rattle.drain_abi.proofs.selvaigo_drain_promotable_held.Tie as tie
 
 nursery-of-requires : tie.Need-nursery-of-requires
 nursery-of-requires c κs = search needs

@@ -1,14 +1,14 @@
--- `entries_abi::selvaigo_snapshot_entries_held` meets its contract: the call under it, over words. Assumes nothing.
+-- `listing_abi::selvaigo_snapshot_entries_held` meets its contract: the call under it, over words. Assumes nothing.
 use lib.ListN.{length}
 use borrow.Author.Tests.{eq-eqb}
 use Rattle.state_words.specs.Words.{overNursery}
 use Rattle.word_calls.specs.NurserySaid.{listingSaid}
 use Rattle.word_calls.specs.NurserySaidLaws.{written-said}
 use borrow.Author.Needs.{needs}
-use Rattle.entries_abi.proofs.selvaigo_snapshot_entries_held.Statement.{
+use Rattle.listing_abi.proofs.selvaigo_snapshot_entries_held.Statement.{
   statement,
 }
-use Rattle.entries_abi.proofs.selvaigo_snapshot_entries_held.Tie as tie
+use Rattle.listing_abi.proofs.selvaigo_snapshot_entries_held.Tie as tie
 
 nursery-of-requires : tie.Need-nursery-of-requires
 nursery-of-requires c κs = search needs

@@ -1,8 +1,8 @@
--- `counters_abi::selvaigo_apply_batch_held` meets its contract: the call under it where a state is held, over words. Assumes nothing.
+-- `batch_abi::selvaigo_apply_batch_held` meets its contract: the call under it where a state is held, over words. Assumes nothing.
 use borrow.Author.Needs.{needs}
 use Rattle.word_calls.specs.CountersSaidLaws.{batch-said}
-use Rattle.counters_abi.proofs.selvaigo_apply_batch_held.Statement.{statement}
-use Rattle.counters_abi.proofs.selvaigo_apply_batch_held.Tie as tie
+use Rattle.batch_abi.proofs.selvaigo_apply_batch_held.Statement.{statement}
+use Rattle.batch_abi.proofs.selvaigo_apply_batch_held.Tie as tie
 
 counters-of-requires : tie.Need-counters-of-requires
 counters-of-requires c κs = search needs

@@ -1,4 +1,4 @@
--- `entries_abi::selvaigo_snapshot_entries` meets its contract: the call under it, over words. Assumes nothing.
+-- `listing_abi::selvaigo_snapshot_entries` meets its contract: the call under it, over words. Assumes nothing.
 use native.Mathlib.Omega.{arith}
 use lib.ListN.{length}
 use borrow.Author.Tests.{eq-eqb, ne-eqb}
@@ -6,8 +6,8 @@ use Rattle.state_words.specs.Words.{overNursery}
 use Rattle.word_calls.specs.NurserySaid.{listingSaid}
 use Rattle.word_calls.specs.NurserySaidLaws.{written-said}
 use borrow.Author.Needs.{needs}
-use Rattle.entries_abi.proofs.selvaigo_snapshot_entries.Statement.{statement}
-use Rattle.entries_abi.proofs.selvaigo_snapshot_entries.Tie as tie
+use Rattle.listing_abi.proofs.selvaigo_snapshot_entries.Statement.{statement}
+use Rattle.listing_abi.proofs.selvaigo_snapshot_entries.Tie as tie
 
 broken-requires : tie.Need-broken-requires
 broken-requires c κs = search needs

@@ -1,8 +1,8 @@
--- `counters_abi::selvaigo_apply_batch` meets its contract: the call under it, over words. Assumes nothing.
+-- `batch_abi::selvaigo_apply_batch` meets its contract: the call under it, over words. Assumes nothing.
 use borrow.Author.Needs.{needs}
 use Rattle.word_calls.specs.CountersSaidLaws.{batch-broken, batch-said}
-use Rattle.counters_abi.proofs.selvaigo_apply_batch.Statement.{statement}
-use Rattle.counters_abi.proofs.selvaigo_apply_batch.Tie as tie
+use Rattle.batch_abi.proofs.selvaigo_apply_batch.Statement.{statement}
+use Rattle.batch_abi.proofs.selvaigo_apply_batch.Tie as tie
 
 broken-requires : tie.Need-broken-requires
 broken-requires c κs = search needs

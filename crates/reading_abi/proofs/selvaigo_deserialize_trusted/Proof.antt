@@ -1,8 +1,8 @@
--- `snapshot_abi::selvaigo_deserialize_trusted` meets its contract: the call under it, over words. Assumes nothing.
+-- `reading_abi::selvaigo_deserialize_trusted` meets its contract: the call under it, over words. Assumes nothing.
 use borrow.Author.Needs.{needs}
 use Rattle.word_calls.specs.CountersSaidLaws.{deserialize-broken, deserialize-taken, deserialize-refused}
-use Rattle.snapshot_abi.proofs.selvaigo_deserialize_trusted.Statement.{statement}
-use Rattle.snapshot_abi.proofs.selvaigo_deserialize_trusted.Tie as tie
+use Rattle.reading_abi.proofs.selvaigo_deserialize_trusted.Statement.{statement}
+use Rattle.reading_abi.proofs.selvaigo_deserialize_trusted.Tie as tie
 
 broken-requires : tie.Need-broken-requires
 broken-requires c κs = search needs

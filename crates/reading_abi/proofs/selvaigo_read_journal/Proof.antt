@@ -1,4 +1,4 @@
--- `record_abi::selvaigo_read_journal` meets its contract: the call under it, over words. Assumes nothing.
+-- `reading_abi::selvaigo_read_journal` meets its contract: the call under it, over words. Assumes nothing.
 use native.Mathlib.Omega.{arith}
 use lib.ListN.{length}
 use borrow.Author.Tests.{eq-eqb, ne-eqb}
@@ -6,8 +6,8 @@ use Rattle.state_words.specs.Words.{overNursery}
 use Rattle.word_calls.specs.RecordSaid.{journalSaid}
 use Rattle.word_calls.specs.RecordSaidLaws.{read-in-said}
 use borrow.Author.Needs.{needs}
-use Rattle.record_abi.proofs.selvaigo_read_journal.Statement.{statement}
-use Rattle.record_abi.proofs.selvaigo_read_journal.Tie as tie
+use Rattle.reading_abi.proofs.selvaigo_read_journal.Statement.{statement}
+use Rattle.reading_abi.proofs.selvaigo_read_journal.Tie as tie
 
 broken-requires : tie.Need-broken-requires
 broken-requires c κs = search needs

@@ -1,4 +1,4 @@
--- `nursery_abi::selvaigo_drain_promotable` meets its contract: the call under it, over words. Assumes nothing.
+-- `drain_abi::selvaigo_drain_promotable` meets its contract: the call under it, over words. Assumes nothing.
 use native.Mathlib.Omega.{arith}
 use lib.ListN.{length}
 use borrow.Author.Tests.{eq-eqb, ne-eqb}
@@ -6,8 +6,8 @@ use Rattle.state_words.specs.Words.{overNursery}
 use Rattle.word_calls.specs.NurserySaid.{drainSaid}
 use Rattle.word_calls.specs.NurserySaidLaws.{drained-said}
 use borrow.Author.Needs.{needs}
-use Rattle.nursery_abi.proofs.selvaigo_drain_promotable.Statement.{statement}
-use Rattle.nursery_abi.proofs.selvaigo_drain_promotable.Tie as tie
+use Rattle.drain_abi.proofs.selvaigo_drain_promotable.Statement.{statement}
+use Rattle.drain_abi.proofs.selvaigo_drain_promotable.Tie as tie
 
 broken-requires : tie.Need-broken-requires
 broken-requires c κs = search needs
