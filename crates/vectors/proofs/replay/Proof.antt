@@ -1,4 +1,4 @@
--- `vectors::replay`: TODO
+-- `vectors::replay`: each step lies within the list, and the place grows.
 -- Assumes nothing.
 use Prim.Native.Nat.{_-_, _≤_}
 use borrow.Author.Needs.{needs}
