@@ -1,0 +1,105 @@
+// What a call reads of its bytes, and how an answer is written. The output that a call is lent is as long as the wanted answer.
+use byte_numbers::read_le64;
+use byte_numbers::write_le64;
+use byte_slices::copy_at;
+ghost use mathlib.Core.Path.{_≡_};
+ghost use lib.ListN.{length};
+
+// No answer has this length.
+pub const NONE: usize = 300000;
+
+// Room for a list, or a published input. The `ensures` gives only the length, so that a caller needn't work it out.
+pub fn text_room() -> [u8; 280000]
+    ensures { λ r. ⌜ 280000 ≡ length r ⌝ }
+{
+    [0; 280000]
+}
+
+// Room for a call or an answer; 0x99 shows what a call leaves as it is.
+pub fn room() -> [u8; 66000]
+    ensures { λ r. ⌜ 66000 ≡ length r ⌝ }
+{
+    [0x99; 66000]
+}
+
+// The word at a place, and 0 where it isn't all there.
+pub fn word(call: &[u8], at: usize) -> u64 {
+    if call.len() < at {
+        return 0;
+    }
+    if call.len() - at < 8 {
+        return 0;
+    }
+    read_le64(call, at)
+}
+
+// A byte goes into the answer; where the next one goes, and `NONE` where there is no room.
+pub fn put_byte(out: &mut [u8], at: usize, b: u8) -> usize {
+    if at < out.len() {
+        out[at] = b;
+        return at + 1;
+    }
+    NONE
+}
+
+// The same with a word.
+fn put_word(out: &mut [u8], at: usize, w: u64) -> usize {
+    if out.len() < at {
+        return NONE;
+    }
+    if out.len() - at < 8 {
+        return NONE;
+    }
+    write_le64(out, at, w);
+    at + 8
+}
+
+// The same with words, one after the other.
+pub fn put_words(out: &mut [u8], at: usize, words: &[u64]) -> usize {
+    let mut to = at;
+    let mut i = 0;
+    while i < words.len() {
+        to = put_word(out, to, words[i]);
+        i += 1;
+    }
+    to
+}
+
+// The number that a call gives, and the words that it writes; where they end.
+pub fn put(out: &mut [u8], number: u8, words: &[u64]) -> usize {
+    let at = put_byte(out, 0, number);
+    put_words(out, at, words)
+}
+
+// The same with the arrays that calls write: their type says how long they are.
+pub fn put_one(out: &mut [u8], number: u8, words: &[u64; 1]) -> usize {
+    put(out, number, words)
+}
+
+pub fn put_two(out: &mut [u8], number: u8, words: &[u64; 2]) -> usize {
+    put(out, number, words)
+}
+
+pub fn put_six(out: &mut [u8], number: u8, words: &[u64; 6]) -> usize {
+    put(out, number, words)
+}
+
+pub fn put_eight(out: &mut [u8], number: u8, words: &[u64; 8]) -> usize {
+    put(out, number, words)
+}
+
+// Bytes go into the answer.
+pub fn put_bytes(out: &mut [u8], at: usize, bytes: &[u8]) -> usize {
+    if out.len() < at {
+        return NONE;
+    }
+    if out.len() - at < bytes.len() {
+        return NONE;
+    }
+    copy_at(out, at, bytes);
+    at + bytes.len()
+}
+
+pub fn put_hash(out: &mut [u8], at: usize, hash: &[u8; 32]) -> usize {
+    put_bytes(out, at, hash)
+}

@@ -1,0 +1,184 @@
+// Calls on a nursery.
+use byte_slices::copy_at;
+use call_lists::answers::NONE;
+use call_lists::answers::put;
+use call_lists::answers::put_bytes;
+use call_lists::answers::put_one;
+use call_lists::answers::put_two;
+use call_lists::answers::word;
+use drain_abi::selvaigo_drain_promotable;
+use entries_abi::selvaigo_get_data;
+use entries_abi::selvaigo_get_idx;
+use listing_abi::selvaigo_snapshot_entries;
+use nursery_abi::selvaigo_apply_commit;
+use reading_abi::selvaigo_read_journal;
+
+// The number and the two words that a call gives.
+struct Said {
+    number: u8,
+    first: u64,
+    second: u64,
+}
+
+// The call has the numbers of inserts and removes, and the items.
+fn apply_commit(
+    nursery: &mut [u64; 3],
+    entries: &mut [u64; 256],
+    waiting: &mut [u64; 160],
+    cells: &mut [u8; 2048],
+    call: &[u8],
+) -> u8 {
+    if call.len() < 16 {
+        return 255;
+    }
+    let inserts = word(call, 0);
+    let removes = word(call, 8);
+    let items = &call[16..];
+    selvaigo_apply_commit(nursery, entries, waiting, cells, 0, inserts, removes, items)
+}
+
+fn read_journal(
+    nursery: &mut [u64; 3],
+    entries: &mut [u64; 256],
+    waiting: &mut [u64; 160],
+    cells: &mut [u8; 2048],
+    call: &[u8],
+) -> Said {
+    let mut read = [0u64; 2];
+    let number = selvaigo_read_journal(call, nursery, entries, waiting, cells, &mut read);
+    Said {
+        number,
+        first: read[0],
+        second: read[1],
+    }
+}
+
+// Calls that change the entries.
+fn change(
+    kind: u8,
+    nursery: &mut [u64; 3],
+    entries: &mut [u64; 256],
+    waiting: &mut [u64; 160],
+    cells: &mut [u8; 2048],
+    call: &[u8],
+) -> Said {
+    if kind == 17 {
+        return read_journal(nursery, entries, waiting, cells, call);
+    }
+    Said {
+        number: apply_commit(nursery, entries, waiting, cells, call),
+        first: 0,
+        second: 0,
+    }
+}
+
+fn put_said(out: &mut [u8], said: Said) -> usize {
+    put(out, said.number, &[said.first, said.second])
+}
+
+fn drain(
+    nursery: &mut [u64; 3],
+    entries: &[u64],
+    waiting: &mut [u64; 160],
+    cells: &[u8],
+    round: u64,
+    out: &mut [u8],
+) -> usize {
+    if out.len() < 9 {
+        return NONE;
+    }
+    let mut len = [0u64; 1];
+    let born = (round % 4294967296) as u32;
+    let body = &mut out[9..];
+    let number = selvaigo_drain_promotable(nursery, entries, waiting, cells, born, body, &mut len);
+    put_one(out, number, &len);
+    out.len()
+}
+
+// The hash that a call has.
+fn key(call: &[u8]) -> [u8; 32] {
+    let mut hash = [0u8; 32];
+    if call.len() == 32 {
+        copy_at(&mut hash, 0, call);
+    }
+    hash
+}
+
+fn get_idx(nursery: &[u64], entries: &[u64], call: &[u8], out: &mut [u8]) -> usize {
+    let hash = key(call);
+    let mut found = [0u64; 2];
+    let number = selvaigo_get_idx(nursery, entries, &hash, &mut found);
+    put_two(out, number, &found)
+}
+
+// A cell's bytes go into the answer behind its number and a word.
+fn put_cell(out: &mut [u8], cells: &[u8], place: u64, len: u64) -> usize {
+    if (cells.len() as u64) < place {
+        return NONE;
+    }
+    let at = place as usize;
+    if ((cells.len() - at) as u64) < len {
+        return NONE;
+    }
+    put_bytes(out, 9, &cells[at..at + len as usize])
+}
+
+fn get_data(nursery: &[u64], entries: &[u64], cells: &[u8], call: &[u8], out: &mut [u8]) -> usize {
+    let hash = key(call);
+    let mut found = [0u64; 3];
+    let number = selvaigo_get_data(nursery, entries, cells, &hash, &mut found);
+    put(out, number, &[found[0]]);
+    put_cell(out, cells, found[1], found[2])
+}
+
+fn listing(nursery: &[u64], entries: &[u64], cells: &[u8], out: &mut [u8]) -> usize {
+    if out.len() < 9 {
+        return NONE;
+    }
+    let mut len = [0u64; 1];
+    let number = selvaigo_snapshot_entries(nursery, entries, cells, &mut out[9..], &mut len);
+    put_one(out, number, &len);
+    out.len()
+}
+
+// How many entries there are, and how many bytes their cells have.
+fn totals(nursery: &[u64], out: &mut [u8]) -> usize {
+    if nursery.len() != 3 {
+        return NONE;
+    }
+    put(out, 0, &[nursery[0], nursery[2]])
+}
+
+// Calls that change nothing.
+fn read(
+    kind: u8,
+    nursery: &[u64],
+    entries: &[u64],
+    cells: &[u8],
+    call: &[u8],
+    out: &mut [u8],
+) -> usize {
+    match kind {
+        19 => get_idx(nursery, entries, call, out),
+        20 => get_data(nursery, entries, cells, call, out),
+        21 => listing(nursery, entries, cells, out),
+        22 => totals(nursery, out),
+        _ => NONE,
+    }
+}
+
+pub(crate) fn answer(
+    kind: u8,
+    nursery: &mut [u64; 3],
+    entries: &mut [u64; 256],
+    waiting: &mut [u64; 160],
+    cells: &mut [u8; 2048],
+    call: &[u8],
+    out: &mut [u8],
+) -> usize {
+    match kind {
+        16 | 17 => put_said(out, change(kind, nursery, entries, waiting, cells, call)),
+        18 => drain(nursery, entries, waiting, cells, word(call, 0), out),
+        _ => read(kind, nursery, entries, cells, call, out),
+    }
+}

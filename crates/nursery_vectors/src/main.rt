@@ -1,0 +1,118 @@
+// Lists of calls on a nursery. `call_lists` says what a list is, and each in `data` how it was made.
+//
+// | kind | call | answer |
+// |---|---|---|
+// | 10 | delta: inserts, removes, items | number, 0, 0 |
+// | 11 | journal to read | number, records applied, the place after them |
+// | 12 | drain: round | number, length, output |
+// | 13 | hash | number, whether found, index |
+// | 14 | hash | number, whether found, the cell |
+// | 15 | listing | number, length, output |
+// | 16 | | 0, entries, cell bytes |
+mod calls;
+
+use byte_slices::equal;
+use call_lists::answers::NONE;
+use call_lists::answers::room;
+use call_lists::answers::text_room;
+use call_lists::files::read_file;
+use call_lists::lines::decode;
+use call_lists::lines::line_after;
+use call_lists::lines::line_end;
+use call_lists::tally::Tally;
+use call_lists::tally::counted;
+use call_lists::tally::report;
+
+// The answer to a call; its length.
+fn answer(
+    call: &[u8],
+    nursery: &mut [u64; 3],
+    entries: &mut [u64; 256],
+    waiting: &mut [u64; 160],
+    cells: &mut [u8; 2048],
+    out: &mut [u8],
+) -> usize {
+    if call.len() < 1 {
+        return NONE;
+    }
+    let kind = call[0];
+    let body = &call[1..];
+    calls::answer(kind, nursery, entries, waiting, cells, body, out)
+}
+
+// Whether a call is answered as wanted.
+fn answered(
+    call: &[u8],
+    wanted: &[u8],
+    nursery: &mut [u64; 3],
+    entries: &mut [u64; 256],
+    waiting: &mut [u64; 160],
+    cells: &mut [u8; 2048],
+) -> bool {
+    let mut room = room();
+    let m = wanted.len();
+    if 66000 < m {
+        return false;
+    }
+    let out = &mut room[0..m];
+    let n = answer(call, nursery, entries, waiting, cells, out);
+    n == m && equal(out, wanted)
+}
+
+// The same of call and answer in hex. What isn't hex is no bytes, and no answer has none.
+fn agrees(
+    call: &[u8],
+    wanted: &[u8],
+    nursery: &mut [u64; 3],
+    entries: &mut [u64; 256],
+    waiting: &mut [u64; 160],
+    cells: &mut [u8; 2048],
+) -> bool {
+    let mut a = room();
+    let mut b = room();
+    let k = decode(call, &mut a);
+    let m = decode(wanted, &mut b);
+    let call = &a[0..k];
+    let wanted = &b[0..m];
+    answered(call, wanted, nursery, entries, waiting, cells)
+}
+
+// The steps of a list, one after the other on one nursery, whose zeros are an empty one with room for 32 entries and 2,048 cell bytes.
+fn replay(name: &[u8], s: &[u8]) {
+    let mut nursery = [0u64; 3];
+    let mut entries = [0u64; 256];
+    let mut waiting = [0u64; 160];
+    let mut cells = [0u8; 2048];
+    let mut t = Tally { steps: 0, good: 0 };
+    let mut at = 0;
+    while at < s.len() {
+        let end = line_end(s, at + 1);
+        let mut next = line_after(s, end);
+        if s[at] != b'#' {
+            let wanted = next;
+            let last = line_end(s, wanted);
+            let good = agrees(
+                &s[at..end],
+                &s[wanted..last],
+                &mut nursery,
+                &mut entries,
+                &mut waiting,
+                &mut cells,
+            );
+            t = counted(t, good, name);
+            next = line_after(s, last);
+        }
+        at = next;
+    }
+    report(name, t);
+}
+
+fn list(name: &[u8]) {
+    let mut text = text_room();
+    let n = read_file(name, &mut text);
+    replay(name, &text[0..n]);
+}
+
+fn main() {
+    list(b"original");
+}

@@ -1,0 +1,125 @@
+// Calls that need no box.
+use byte_numbers::read_le32;
+use byte_slices::equal;
+use call_lists::answers::NONE;
+use call_lists::answers::put;
+use call_lists::answers::put_byte;
+use call_lists::answers::put_eight;
+use call_lists::answers::put_hash;
+use call_lists::answers::put_six;
+use call_lists::answers::put_words;
+use call_lists::answers::room;
+use call_lists::answers::text_room;
+use call_lists::answers::word;
+use record_abi::selvaigo_decode_record;
+use record_abi::selvaigo_encode_record;
+use record_abi::selvaigo_hash;
+use shrink_abi::selvaigo_adjust_shrink_threshold;
+use shrink_abi::selvaigo_should_shrink;
+
+fn hash(bytes: &[u8], out: &mut [u8]) -> usize {
+    let mut key = [0u8; 32];
+    selvaigo_hash(bytes, &mut key);
+    put_hash(out, 0, &key)
+}
+
+// The hash of a published input: byte i is i mod 251.
+fn published(input: &mut [u8], out: &mut [u8]) -> usize {
+    let mut i = 0;
+    while i < input.len() {
+        input[i] = (i % 251) as u8;
+        i += 1;
+    }
+    hash(input, out)
+}
+
+fn hash_published(len: u64, out: &mut [u8]) -> usize {
+    let mut input = text_room();
+    if 280000 < len {
+        return NONE;
+    }
+    let n = len as usize;
+    published(&mut input[0..n], out)
+}
+
+// The call has the id, the numbers of inserts and removes, whether lengths are wide, and the items.
+fn encode(call: &[u8], out: &mut [u8]) -> usize {
+    if call.len() < 25 {
+        return NONE;
+    }
+    if out.len() < 49 {
+        return NONE;
+    }
+    let mut figures = [0u64; 6];
+    let number = selvaigo_encode_record(
+        word(call, 0),
+        call[24],
+        word(call, 8),
+        word(call, 16),
+        &call[25..],
+        &mut out[49..],
+        &mut figures,
+    );
+    put_six(out, number, &figures);
+    out.len()
+}
+
+fn decode(call: &[u8], out: &mut [u8]) -> usize {
+    let mut figures = [0u64; 8];
+    let mut key = [0u8; 32];
+    let number = selvaigo_decode_record(call, &mut figures, &mut key);
+    let at = put_eight(out, number, &figures);
+    put_hash(out, at, &key)
+}
+
+// Whether a record's items, encoded again with the id and the numbers that stand in it, give the record again.
+fn again(record: &[u8]) -> u8 {
+    let n = record.len();
+    if n < 56 {
+        return 0;
+    }
+    if 66000 < n {
+        return 0;
+    }
+    let mut room = room();
+    let out = &mut room[0..n];
+    let mut figures = [0u64; 6];
+    selvaigo_encode_record(
+        word(record, 40),
+        0,
+        read_le32(record, 48) as u64,
+        read_le32(record, 52) as u64,
+        &record[56..],
+        out,
+        &mut figures,
+    );
+    equal(out, record) as u8
+}
+
+fn decode_and_again(call: &[u8], out: &mut [u8]) -> usize {
+    let at = decode(call, out);
+    put_byte(out, at, again(call))
+}
+
+fn should_shrink(call: &[u8], out: &mut [u8]) -> usize {
+    let yes = selvaigo_should_shrink(word(call, 0), word(call, 8), word(call, 16));
+    put(out, yes, &[])
+}
+
+fn adjust(call: &[u8], out: &mut [u8]) -> usize {
+    let after = selvaigo_adjust_shrink_threshold(word(call, 0), word(call, 8));
+    put_words(out, 0, &[after])
+}
+
+pub(crate) fn answer(kind: u8, call: &[u8], out: &mut [u8]) -> usize {
+    match kind {
+        32 => hash(call, out),
+        33 => hash_published(word(call, 0), out),
+        34 => encode(call, out),
+        35 => decode(call, out),
+        36 => decode_and_again(call, out),
+        37 => should_shrink(call, out),
+        38 => adjust(call, out),
+        _ => NONE,
+    }
+}
