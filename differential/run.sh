@@ -4,7 +4,7 @@
 #   TYCHO_SRC=DIR run.sh [--steps N | --seconds S] [--seed K] [--threads N] [--checked]
 #   TYCHO_SRC=DIR run.sh --run K [--seed K]      one run of a seed
 #   TYCHO_SRC=DIR run.sh --replay FILE           the steps of a file
-#   TYCHO_SRC=DIR run.sh --sample                writes the list crates/vectors/data/original anew
+#   TYCHO_SRC=DIR run.sh --sample                writes the lists crates/*_vectors/data/original anew
 #
 # TYCHO_SRC is the folder that holds core/src/storage/shard_state. The port's library is made by tools/staticlib.sh, unless SELVAIGO_LIB
 # names a folder that has libselvaigo.a. Needs Debian's packages librust-{ahash,anyhow,blake3,bytes,dashmap,hashbrown,libc,parking-lot,
@@ -21,7 +21,7 @@ for word; do
     shift
     case $word in
     --checked) profile=checked ;;
-    --sample) set -- "$@" --sample "$here/../crates/vectors/data/original" ;;
+    --sample) set -- "$@" --sample "$here/../crates" ;;
     *) set -- "$@" "$word" ;;
     esac
 done

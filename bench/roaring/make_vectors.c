@@ -1,5 +1,5 @@
-// Makes three data files of crates/vectors with CRoaring (Debian's libroaring-dev):
-//   cc -O2 -o make_vectors bench/roaring/make_vectors.c -lroaring && ./make_vectors crates/vectors/data
+// Makes three data files of crates/record_vectors with CRoaring (Debian's libroaring-dev):
+//   cc -O2 -o make_vectors bench/roaring/make_vectors.c -lroaring && ./make_vectors crates/record_vectors/data
 // A file is a 64-bit bitmap: the number of buckets (8 bytes), then for each the high half (4 bytes) and CRoaring's portable
 // form of its 32-bit bitmap. The heads of 8 and 4 bytes are written here, little endian; all else is CRoaring's.
 #include <roaring/roaring.h>

@@ -59,7 +59,7 @@ fn orders() -> Result<Orders, String> {
             "--threads" => o.threads = number()? as usize,
             "--run" => o.run = Some(number()?),
             "--replay" => o.replay = Some(words.next().ok_or("--replay takes a file")?),
-            "--sample" => o.sample = Some(words.next().ok_or("--sample takes a file")?),
+            "--sample" => o.sample = Some(words.next().ok_or("--sample takes the folder of crates")?),
             "--lie" => o.lie = true,
             _ => return Err(format!("unknown: {word}")),
         }

@@ -1,4 +1,4 @@
-//! A list of steps with the original's answers, for crates/vectors to replay where no Rust is at hand.
+//! Steps with the original's answers, a list for each family of calls, for the programs crates/*_vectors to replay where no Rust is at hand.
 use std::fmt::Write;
 use std::sync::Arc;
 
@@ -11,7 +11,7 @@ use crate::roaring::Broken;
 use crate::steps::{Delta, Hex, Insert, Sizes, Step};
 use crate::storage::shard_state::original::Original;
 
-/// A box that the program that replays the list has room for.
+/// A box that the programs that replay the lists have room for.
 const SIZES: Sizes =
     Sizes { next: (1 << 32) + 3, counts: 128, entries: 256, waiting: 160, cells: 2_048, stripes: 1, held: false };
 
@@ -28,7 +28,7 @@ fn longest(step: &Step) -> usize {
     }
 }
 
-/// Bytes of a list that the program has room for.
+/// Bytes of a list that a program has room for.
 const ROOM: usize = 280_000;
 
 /// At most so many of a kind, by its place in `KINDS`: snapshots are long.
@@ -83,7 +83,7 @@ fn listing(entries: &[Insert]) -> Vec<u8> {
     out
 }
 
-/// A call's kind and its bytes; src/main.rt of the program says what they are.
+/// A call's kind and its bytes; src/main.rt of the family's program says what they are.
 fn call(step: &Step, journal: &[u8]) -> (u8, Vec<u8>) {
     match step {
         Step::Batch(batch) => (0x02, words(&batch.concat())),
@@ -224,27 +224,35 @@ fn steps(seed: u64, pool: Arc<ThreadPool>) -> Vec<(Step, Vec<u8>)> {
     all
 }
 
-/// The two lines of a step.
-fn lines(text: &mut String, (kind, bytes): &(u8, Vec<u8>), answer: &[u8]) {
+/// The programs of the families, by the first digit of a call's kind.
+const PROGRAMS: [&str; 3] = ["counter_vectors", "nursery_vectors", "record_vectors"];
+
+/// The lists, with the two lines of a step more in its family's.
+fn lines(lists: &mut [String; 3], (kind, bytes): &(u8, Vec<u8>), answer: &[u8]) {
     let hex = |bytes: &[u8]| if bytes.is_empty() { String::new() } else { Hex(bytes).to_string() };
-    writeln!(text, "{kind:02x}{}\n{}", hex(bytes), hex(answer)).unwrap();
+    writeln!(lists[usize::from(kind / 16)], "{kind:02x}{}\n{}", hex(bytes), hex(answer)).unwrap();
 }
 
-pub fn write(path: &str, seed: u64, pool: Arc<ThreadPool>) {
+/// Writes the lists into the programs under the folder of crates.
+pub fn write(crates: &str, seed: u64, pool: Arc<ThreadPool>) {
     let steps = steps(seed, pool.clone());
     let mut o = Original::new(SIZES.next, SIZES.stripes, pool);
-    let mut text = format!(
+    let head = format!(
         "# Calls and what the original Rust answers to them, one after the other on one box. Made by `differential/run.sh --sample --seed {seed}`, which\n\
          # runs the original's files unchanged; the large counts of its snapshots are put in order of their indices.\n"
     );
-    lines(&mut text, &(0x01, words(&[SIZES.next])), &[0]);
+    let mut lists = [head.clone(), head.clone(), head];
+    lines(&mut lists, &(0x01, words(&[SIZES.next])), &[0]);
     for (step, journal) in &steps {
-        lines(&mut text, &call(step, journal), &answer(&mut o, step, journal));
+        lines(&mut lists, &call(step, journal), &answer(&mut o, step, journal));
         for (call, answer) in looks(&o, step) {
-            lines(&mut text, &call, &answer);
+            lines(&mut lists, &call, &answer);
         }
     }
-    assert!(text.len() < ROOM, "a long list: take another seed");
-    std::fs::write(path, text).expect(path);
-    println!("{} steps written to {path}", steps.len());
+    for (program, text) in PROGRAMS.iter().zip(lists) {
+        assert!(text.len() < ROOM, "a long list: take another seed");
+        let path = format!("{crates}/{program}/data/original");
+        std::fs::write(&path, text).expect(&path);
+    }
+    println!("{} steps written to {crates}", steps.len());
 }
