@@ -1,11 +1,11 @@
--- `snapshot_write::write_set`. The bitmap is put, and its length before it.
+-- `snapshot_parts::write_set`. The bitmap is put, and its length before it.
 -- Assumes nothing.
 use native.Mathlib.Omega.{arith}
 use borrow.Author.Needs.{needs}
 use lib.ListN.{length}
-use Rattle.snapshot_write.specs.PartLaws.{set-put, length-set}
-use Rattle.snapshot_write.proofs.write_set.Statement.{statement}
-use Rattle.snapshot_write.proofs.write_set.Tie as tie
+use Rattle.snapshot_parts.specs.PartLaws.{set-put, length-set}
+use Rattle.snapshot_parts.proofs.write_set.Statement.{statement}
+use Rattle.snapshot_parts.proofs.write_set.Tie as tie
 
 add-write64 : tie.Need-add-write64
 add-write64 c =

@@ -1,4 +1,4 @@
--- `snapshot_write::write_sets`. The invariant: the sets from set k on, put at p, give what is wanted.
+-- `snapshot_parts::write_sets`. The invariant: the sets from set k on, put at p, give what is wanted.
 -- Assumes nothing.
 use mathlib.Core.Path.{_≡_, refl, sym, ap, _∙_}
 use Prim.Native.Nat.{ℕ, _+_, _-_, _≤_}
@@ -9,9 +9,9 @@ use Rattle.rows.specs.Table.{rowsOf}
 use Rattle.roaring_rows.specs.PlaceLaws.{putAt, putAt-none}
 use Rattle.counters.specs.Layout.{countRow}
 use Rattle.snapshot.specs.Write.{setBytes}
-use Rattle.snapshot_write.specs.PartLaws.{put-next, setsFrom, sets-next, sets-length, sets-end}
-use Rattle.snapshot_write.proofs.write_sets.Statement.{statement}
-use Rattle.snapshot_write.proofs.write_sets.Tie as tie
+use Rattle.snapshot_parts.specs.PartLaws.{put-next, setsFrom, sets-next, sets-length, sets-end}
+use Rattle.snapshot_parts.proofs.write_sets.Statement.{statement}
+use Rattle.snapshot_parts.proofs.write_sets.Tie as tie
 
 abbrev Inv-loop : tie.InvT-loop
 Inv-loop out₀ at t n p₀ k₀ out p k = (k ≤ 8) × (p + length (setsFrom n t k) ≡ at + length (setsFrom n t 0)) × (putAt out p (setsFrom n t k) ≡ putAt out₀ at (setsFrom n t 0)) × (length out ≡ length out₀)

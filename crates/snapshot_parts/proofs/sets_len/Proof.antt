@@ -1,12 +1,12 @@
--- `snapshot_write::sets_len`. The invariant: what is counted and what the sets from set k on take are together what all take.
+-- `snapshot_parts::sets_len`. The invariant: what is counted and what the sets from set k on take are together what all take.
 -- Assumes nothing.
 use mathlib.Core.Path.{_≡_, ap}
 use Prim.Native.Nat.{_+_, _-_, _≤_}
 use native.Mathlib.Omega.{arith}
 use lib.ListN.{length}
-use Rattle.snapshot_write.specs.PartLaws.{setsFrom, length-set, sets-length, sets-end}
-use Rattle.snapshot_write.proofs.sets_len.Statement.{statement}
-use Rattle.snapshot_write.proofs.sets_len.Tie as tie
+use Rattle.snapshot_parts.specs.PartLaws.{setsFrom, length-set, sets-length, sets-end}
+use Rattle.snapshot_parts.proofs.sets_len.Statement.{statement}
+use Rattle.snapshot_parts.proofs.sets_len.Tie as tie
 
 abbrev Inv-loop : tie.InvT-loop
 Inv-loop t n len₀ k₀ len k = (k ≤ 8) × (len + length (setsFrom n t k) ≡ length (setsFrom n t 0))

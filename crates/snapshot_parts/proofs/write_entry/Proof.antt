@@ -1,10 +1,10 @@
--- `snapshot_write::write_entry`. Two numbers are put, one behind the other.
+-- `snapshot_parts::write_entry`. Two numbers are put, one behind the other.
 -- Assumes nothing.
 use native.Mathlib.Omega.{arith}
 use borrow.Author.Needs.{needs}
-use Rattle.snapshot_write.specs.PartLaws.{two-put}
-use Rattle.snapshot_write.proofs.write_entry.Statement.{statement}
-use Rattle.snapshot_write.proofs.write_entry.Tie as tie
+use Rattle.snapshot_parts.specs.PartLaws.{two-put}
+use Rattle.snapshot_parts.proofs.write_entry.Statement.{statement}
+use Rattle.snapshot_parts.proofs.write_entry.Tie as tie
 
 write-le64-requires : tie.Need-write-le64-requires
 write-le64-requires c κs = search needs

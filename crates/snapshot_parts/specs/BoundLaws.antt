@@ -29,7 +29,7 @@ use Rattle.counters.specs.Layout.{countRow, sound, ordered, stateOf, holds}
 use Rattle.counters.specs.LayoutLaws.{held}
 use Rattle.counters.specs.MaintenanceLaws.{large-count}
 use Rattle.snapshot.specs.Write.{setBytes, largeBytes, snapshotBytes}
-use Rattle.snapshot_write.specs.PartLaws.{length-snapshot}
+use Rattle.snapshot_parts.specs.PartLaws.{length-snapshot}
 
 -- ---- a bitmap of ascending numbers of 64 bits: two bytes a member, and what buckets and containers take
 abbrev most : ℕ

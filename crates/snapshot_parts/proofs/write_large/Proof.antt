@@ -1,4 +1,4 @@
--- `snapshot_write::write_large`. The invariant: the large tier from row i on, put at p, gives what is wanted.
+-- `snapshot_parts::write_large`. The invariant: the large tier from row i on, put at p, gives what is wanted.
 -- Assumes nothing.
 use mathlib.Core.Logic.{⊎-elim}
 use mathlib.Core.Path.{_≡_, refl, sym, ap, ap₂, _∙_}
@@ -10,9 +10,9 @@ use lib.ListN.{length, getD, length-append}
 use Rattle.base.specs.Bytes.{le64}
 use Rattle.base.specs.Laws.{length-digits}
 use Rattle.roaring_rows.specs.PlaceLaws.{putAt, putAt-none, length-putAt}
-use Rattle.snapshot_write.specs.PartLaws.{put-next, largeFrom, large-next, large-skip, large-length, large-end}
-use Rattle.snapshot_write.proofs.write_large.Statement.{statement}
-use Rattle.snapshot_write.proofs.write_large.Tie as tie
+use Rattle.snapshot_parts.specs.PartLaws.{put-next, largeFrom, large-next, large-skip, large-length, large-end}
+use Rattle.snapshot_parts.proofs.write_large.Statement.{statement}
+use Rattle.snapshot_parts.proofs.write_large.Tie as tie
 
 abbrev Inv-loop : tie.InvT-loop
 Inv-loop out₀ at t n p₀ i₀ out p i = (i ≤ n) × (p + length (largeFrom n t i) ≡ at + length (largeFrom n t 0)) × (putAt out p (largeFrom n t i) ≡ putAt out₀ at (largeFrom n t 0)) × (length out ≡ length out₀)

@@ -1,4 +1,4 @@
--- `snapshot_write::large_len`. The invariant: what is counted and what the large tier from row i on takes are together what all takes.
+-- `snapshot_parts::large_len`. The invariant: what is counted and what the large tier from row i on takes are together what all takes.
 -- Assumes nothing.
 use mathlib.Core.Logic.{⊎-elim}
 use mathlib.Core.Path.{_≡_, ap}
@@ -6,9 +6,9 @@ use Prim.Native.Nat.{_+_, _-_, _≤_}
 use native.Mathlib.Omega.{arith}
 use borrow.Author.Needs.{needs}
 use lib.ListN.{length}
-use Rattle.snapshot_write.specs.PartLaws.{largeFrom, large-length, large-skip, large-end}
-use Rattle.snapshot_write.proofs.large_len.Statement.{statement}
-use Rattle.snapshot_write.proofs.large_len.Tie as tie
+use Rattle.snapshot_parts.specs.PartLaws.{largeFrom, large-length, large-skip, large-end}
+use Rattle.snapshot_parts.proofs.large_len.Statement.{statement}
+use Rattle.snapshot_parts.proofs.large_len.Tie as tie
 
 abbrev Inv-loop : tie.InvT-loop
 Inv-loop t n len₀ i₀ len i = (i ≤ n) × (len + length (largeFrom n t i) ≡ length (largeFrom n t 0))
