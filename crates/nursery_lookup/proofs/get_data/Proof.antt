@@ -1,12 +1,12 @@
--- `nursery_table::get_data` meets its contract: the checks, then the search.
+-- `nursery_lookup::get_data` meets its contract: the checks, then the search.
 -- Assumes nothing.
 use borrow.Author.Tests.{not-true, not-false}
 use Rattle.cell_nursery.specs.SearchLaws.{data-not-entries, data-not-cells}
 use Rattle.base.specs.Bytes.{unbe}
 use mathlib.Core.Path.{sym, _∙_}
 use borrow.Author.Needs.{needs}
-use Rattle.nursery_table.proofs.get_data.Statement.{statement}
-use Rattle.nursery_table.proofs.get_data.Tie as tie
+use Rattle.nursery_lookup.proofs.get_data.Statement.{statement}
+use Rattle.nursery_lookup.proofs.get_data.Tie as tie
 
 holds-entries-requires : tie.Need-holds-entries-requires
 holds-entries-requires c κs = search needs

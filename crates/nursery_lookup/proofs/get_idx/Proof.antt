@@ -1,12 +1,12 @@
--- `nursery_table::get_idx` meets its contract: the check, then the search.
+-- `nursery_lookup::get_idx` meets its contract: the check, then the search.
 -- Assumes nothing.
 use borrow.Author.Tests.{not-true, not-false}
 use Rattle.cell_nursery.specs.SearchLaws.{get-broken}
 use Rattle.base.specs.Bytes.{unbe}
 use mathlib.Core.Path.{sym, _∙_}
 use borrow.Author.Needs.{needs}
-use Rattle.nursery_table.proofs.get_idx.Statement.{statement}
-use Rattle.nursery_table.proofs.get_idx.Tie as tie
+use Rattle.nursery_lookup.proofs.get_idx.Statement.{statement}
+use Rattle.nursery_lookup.proofs.get_idx.Tie as tie
 
 holds-entries-requires : tie.Need-holds-entries-requires
 holds-entries-requires c κs = search needs

@@ -1,4 +1,4 @@
--- `nursery_table::find_hash` meets its contract: at its place among the hashes stands the hash itself, or it is absent.
+-- `nursery_lookup::find_hash` meets its contract: at its place among the hashes stands the hash itself, or it is absent.
 -- Assumes nothing.
 use lib.ListN.{getD, drop}
 use borrow.Author.Tests.{ltb-true, ltb-false}
@@ -11,8 +11,8 @@ use mathlib.Core.Path.{_≡_, sym, _∙_}
 use Prim.Native.Nat.{_*_}
 use native.Mathlib.Omega.{arith}
 use borrow.Author.Needs.{needs}
-use Rattle.nursery_table.proofs.find_hash.Statement.{statement}
-use Rattle.nursery_table.proofs.find_hash.Tie as tie
+use Rattle.nursery_lookup.proofs.find_hash.Statement.{statement}
+use Rattle.nursery_lookup.proofs.find_hash.Tie as tie
 
 -- the key of the row at the hash's place
 key-here : (c : tie.Then1) → let f = c .before in let a = f .before .before .args in getD (keys firstFour 8 (a .r .entries) (a .es .now)) (f .find-wide .result) 0 ≡ firstFour (drop (f .find-wide .result * 8) (a .es .now))

@@ -1,4 +1,4 @@
--- `nursery_table::get_idx_held` meets its contract: the index in the row that has the hash.
+-- `nursery_lookup::get_idx_held` meets its contract: the index in the row that has the hash.
 -- Assumes nothing.
 use lib.ListN.{length}
 use Rattle.cell_nursery.specs.LayoutLaws.{entries-held}
@@ -10,8 +10,8 @@ use mathlib.Core.Path.{_≡_, ap, _∙_}
 use Prim.Native.Nat.{ℕ, _*_, _≤_}
 use native.Mathlib.Omega.{arith}
 use borrow.Author.Needs.{needs}
-use Rattle.nursery_table.proofs.get_idx_held.Statement.{statement}
-use Rattle.nursery_table.proofs.get_idx_held.Tie as tie
+use Rattle.nursery_lookup.proofs.get_idx_held.Statement.{statement}
+use Rattle.nursery_lookup.proofs.get_idx_held.Tie as tie
 
 -- the row that the search gives, by the number that the 32 bytes spell
 row : (c : tie.After-find-hash) → let s = c .before .before .before .before in c .find-hash .result ≡ indexOf (unbe (s .args .t3)) (keys firstFour 8 (s .args .r .entries) (s .args .es .now))
