@@ -87,8 +87,8 @@ fn write_row(
 {
     let k = promoted_row(r, es, ws, i);
     if k < r.entries {
-        nursery_listing::write_head(es, k, out, at);
-        nursery_listing::write_tail(es, k, cs, out, at + 40);
+        listing_rows::write_head(es, k, out, at);
+        listing_rows::write_tail(es, k, cs, out, at + 40);
         return 42 + es[k * 8 + 7] as usize;
     }
     0

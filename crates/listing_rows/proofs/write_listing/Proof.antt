@@ -1,4 +1,4 @@
--- `nursery_listing::write_listing` meets its contract. The invariant: the bytes of the first i entries stand at the start.
+-- `listing_rows::write_listing` meets its contract. The invariant: the bytes of the first i entries stand at the start.
 -- Assumes nothing.
 use mathlib.Core.List.{[]}
 use lib.ListN.{length, take}
@@ -13,8 +13,8 @@ use mathlib.Core.Path.{_≡_, refl, _∙_}
 use Prim.Native.Nat.{_-_, _≤_}
 use native.Mathlib.Omega.{arith}
 use borrow.Author.Needs.{needs}
-use Rattle.nursery_listing.proofs.write_listing.Statement.{statement}
-use Rattle.nursery_listing.proofs.write_listing.Tie as tie
+use Rattle.listing_rows.proofs.write_listing.Statement.{statement}
+use Rattle.listing_rows.proofs.write_listing.Tie as tie
 
 abbrev Inv-loop : tie.InvT-loop
 Inv-loop es cs out₀ n i₀ at₀ out i at = (i ≤ n) × (at ≡ length (flat insertBytes (take i (entriesOf n es cs)))) × (out ≡ paste out₀ 0 (flat insertBytes (take i (entriesOf n es cs))) at) × (length out ≡ length out₀)

@@ -1,11 +1,11 @@
--- `nursery_listing::write_insert` meets its contract: three pastes side by side.
+-- `listing_rows::write_insert` meets its contract: three pastes side by side.
 -- Assumes nothing.
 use Rattle.cell_nursery.specs.OutputLaws.{insert-written}
 use mathlib.Core.Path.{_∙_}
 use native.Mathlib.Omega.{arith}
 use borrow.Author.Needs.{needs}
-use Rattle.nursery_listing.proofs.write_insert.Statement.{statement}
-use Rattle.nursery_listing.proofs.write_insert.Tie as tie
+use Rattle.listing_rows.proofs.write_insert.Statement.{statement}
+use Rattle.listing_rows.proofs.write_insert.Tie as tie
 
 write-head-requires : tie.Need-write-head-requires
 write-head-requires c κs = search needs

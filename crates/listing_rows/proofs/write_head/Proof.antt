@@ -1,11 +1,11 @@
--- `nursery_listing::write_head` meets its contract: two pastes side by side.
+-- `listing_rows::write_head` meets its contract: two pastes side by side.
 -- Assumes nothing.
 use Rattle.cell_nursery.specs.OutputLaws.{head-written}
 use Rattle.rows.specs.Wide.{keyOf}
 use mathlib.Core.Path.{_∙_}
 use borrow.Author.Needs.{needs}
-use Rattle.nursery_listing.proofs.write_head.Statement.{statement}
-use Rattle.nursery_listing.proofs.write_head.Tie as tie
+use Rattle.listing_rows.proofs.write_head.Statement.{statement}
+use Rattle.listing_rows.proofs.write_head.Tie as tie
 
 mul-wide-at : tie.Need-mul-wide-at
 mul-wide-at c = search needs

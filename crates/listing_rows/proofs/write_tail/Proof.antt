@@ -1,4 +1,4 @@
--- `nursery_listing::write_tail` meets its contract: two pastes side by side.
+-- `listing_rows::write_tail` meets its contract: two pastes side by side.
 -- Assumes nothing.
 use lib.ListN.{getD}
 use Rattle.cell_nursery.specs.OutputLaws.{tail-written}
@@ -6,8 +6,8 @@ use mathlib.Core.Path.{refl, _∙_}
 use Prim.Native.Nat.{_+_, _*_}
 use native.Mathlib.Omega.{arith}
 use borrow.Author.Needs.{needs}
-use Rattle.nursery_listing.proofs.write_tail.Statement.{statement}
-use Rattle.nursery_listing.proofs.write_tail.Tie as tie
+use Rattle.listing_rows.proofs.write_tail.Statement.{statement}
+use Rattle.listing_rows.proofs.write_tail.Tie as tie
 
 mul-len : tie.Need-mul-len
 mul-len c = search needs
