@@ -21,7 +21,7 @@ fn is_stored(r: Nursery, es: &[u64], hash: Wide) -> bool
     requires { ⌜ EntriesHeld r (now es) ⌝ }
     ensures { λ b. ⌜ b ≡ elem (keyOf hash) (keys firstFour 8 (r .entries) (now (es .entry))) ⌝ }
 {
-    nursery_table::find_hash(r, es, hash) < r.entries
+    nursery_lookup::find_hash(r, es, hash) < r.entries
 }
 
 // Whether the hash of an insert is in the nursery.

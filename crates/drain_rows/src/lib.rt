@@ -32,7 +32,7 @@ fn promoted_row(r: Nursery, es: &[u64], ws: &[u64], i: usize) -> usize
     ensures { λ k. ⌜ k ≡ promotedRow r (now (es .entry)) (waiterAtRow (now (ws .entry)) i) ⌝ }
 {
     let n = r.entries;
-    let k = nursery_table::find_hash(r, es, row_search::wide_at(ws, i * 5 + 1));
+    let k = nursery_lookup::find_hash(r, es, row_search::wide_at(ws, i * 5 + 1));
     if k < n {
         if es[k * 8 + 5] == ws[i * 5] {
             return k;
@@ -87,8 +87,8 @@ fn write_row(
 {
     let k = promoted_row(r, es, ws, i);
     if k < r.entries {
-        nursery_listing::write_head(es, k, out, at);
-        nursery_listing::write_tail(es, k, cs, out, at + 40);
+        listing_rows::write_head(es, k, out, at);
+        listing_rows::write_tail(es, k, cs, out, at + 40);
         return 42 + es[k * 8 + 7] as usize;
     }
     0

@@ -25,7 +25,7 @@ pub extern "C" fn selvaigo_get_idx(
         *found = [0; 2];
         return broken();
     }
-    let x = nursery_table::get_idx(nursery_of(nursery), entries, *hash);
+    let x = nursery_lookup::get_idx(nursery_of(nursery), entries, *hash);
     put_found(x, found)
 }
 
@@ -40,7 +40,7 @@ pub extern "C" fn selvaigo_get_idx_held(
     requires { ⌜ (length (now nursery) ≡ 3) × (holdsEntries (nurseryOf (now nursery)) (now entries) ≡ true) ⌝ }
     ensures { λ r. ⌜ said r (now (found .exit) ∷ []) [] ≡ idxSaid (now (nursery .entry)) (now (entries .entry)) (now (hash .entry)) ⌝ }
 {
-    let x = nursery_table::get_idx_held(nursery_of(nursery), entries, *hash);
+    let x = nursery_lookup::get_idx_held(nursery_of(nursery), entries, *hash);
     put_found(x, found)
 }
 
@@ -59,7 +59,7 @@ pub extern "C" fn selvaigo_get_data(
         *found = [0; 3];
         return broken();
     }
-    let x = nursery_table::get_data(nursery_of(nursery), entries, cells, *hash);
+    let x = nursery_lookup::get_data(nursery_of(nursery), entries, cells, *hash);
     put_data(x, found)
 }
 
@@ -75,6 +75,6 @@ pub extern "C" fn selvaigo_get_data_held(
     requires { ⌜ (length (now nursery) ≡ 3) × (holdsEntries (nurseryOf (now nursery)) (now entries) ≡ true) × (holdsCells (nurseryOf (now nursery)) (now cells) ≡ true) ⌝ }
     ensures { λ r. ⌜ said r (now (found .exit) ∷ []) [] ≡ dataSaid (now (nursery .entry)) (now (entries .entry)) (now (cells .entry)) (now (hash .entry)) ⌝ }
 {
-    let x = nursery_table::get_data_held(nursery_of(nursery), entries, cells, *hash);
+    let x = nursery_lookup::get_data_held(nursery_of(nursery), entries, cells, *hash);
     put_data(x, found)
 }

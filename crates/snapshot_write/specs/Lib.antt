@@ -1,4 +1,2 @@
--- `PartLaws`: a snapshot's parts one after the other. `BoundLaws`: its length fits. `CallLaws`: the ways out of the calls.
-pub mod PartLaws
-pub mod BoundLaws
+-- `CallLaws`: the ways out of the calls.
 pub mod CallLaws

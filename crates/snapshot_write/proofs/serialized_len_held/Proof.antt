@@ -5,8 +5,8 @@ use native.Mathlib.Omega.{arith}
 use lib.ListN.{length}
 use Rattle.counters.specs.Layout.{stateOf}
 use Rattle.snapshot.specs.Write.{snapshotBytes}
-use Rattle.snapshot_write.specs.PartLaws.{length-snapshot}
-use Rattle.snapshot_write.specs.BoundLaws.{snapshot-fits}
+use Rattle.snapshot_parts.specs.PartLaws.{length-snapshot}
+use Rattle.snapshot_parts.specs.BoundLaws.{snapshot-fits}
 use Rattle.counters.specs.RowLaws.{in-order}
 use Rattle.snapshot_write.proofs.serialized_len_held.Statement.{statement}
 use Rattle.snapshot_write.proofs.serialized_len_held.Tie as tie

@@ -2,7 +2,7 @@
 -- Assumes nothing.
 use native.Mathlib.Omega.{arith}
 use lib.ListN.{length-set}
-use Rattle.snapshot_write.specs.PartLaws.{length-snapshot, whole-put}
+use Rattle.snapshot_parts.specs.PartLaws.{length-snapshot, whole-put}
 use Rattle.counters.specs.RowLaws.{in-order}
 use Rattle.snapshot_write.proofs.write_snapshot.Statement.{statement}
 use Rattle.snapshot_write.proofs.write_snapshot.Tie as tie
