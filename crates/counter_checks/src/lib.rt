@@ -2,24 +2,14 @@
 ghost use mathlib.Core.Path.{_≡_};
 ghost use mathlib.Core.Bool.{_&&_, _||_};
 ghost use Prim.Native.Nat.{_+_, _/_, _≤_, _<_};
-ghost use lib.Dec.{ltb, eqb};
+ghost use lib.Dec.{ltb};
 ghost use lib.ListN.{length, drop};
 ghost use Rattle.base.specs.Logic.{any, elem, repeated, max64};
 ghost use Rattle.rows.specs.Table.{rowsOf};
 ghost use Rattle.counters.specs.Layout.{countRow};
 ghost use Rattle.counters.specs.Batch.{changes, kept, named, unallocated, falseOld};
 ghost use Rattle.counters.specs.Held.{InOrder};
-ghost use Rattle.counters.specs.Steps.{transition, transitionAt, transitions};
-
-// Whether a transition changes a count at an index that isn't allocated.
-pub fn is_unallocated(next: u64, idx: u64, old: u64, new: u64) -> bool
-    ensures { λ r. ⌜ r ≡ (changes (transition idx old new) && unallocated next (transition idx old new)) ⌝ }
-{
-    if old == new {
-        return false;
-    }
-    next <= idx
-}
+ghost use Rattle.counters.specs.Steps.{transitionAt, transitions};
 
 // 2: a kept transition names an index at or above next.
 pub fn any_unallocated(b: &[u64], next: u64) -> bool
@@ -28,22 +18,12 @@ pub fn any_unallocated(b: &[u64], next: u64) -> bool
     let m = b.len() / 3;
     let mut i = 0;
     while i < m {
-        if is_unallocated(next, b[i * 3], b[i * 3 + 1], b[i * 3 + 2]) {
+        if transition_checks::is_unallocated(next, b[i * 3], b[i * 3 + 1], b[i * 3 + 2]) {
             return true;
         }
         i += 1;
     }
     false
-}
-
-// Whether a transition is kept and names idx.
-pub fn is_named(seek: u64, idx: u64, old: u64, new: u64) -> bool
-    ensures { λ r. ⌜ r ≡ (changes (transition idx old new) && eqb seek idx) ⌝ }
-{
-    if old == new {
-        return false;
-    }
-    seek == idx
 }
 
 // Whether a kept transition from number `from` on names idx.
@@ -54,7 +34,7 @@ fn named_from(b: &[u64], from: usize, idx: u64) -> bool
     let m = b.len() / 3;
     let mut i = from;
     while i < m {
-        if is_named(idx, b[i * 3], b[i * 3 + 1], b[i * 3 + 2]) {
+        if transition_checks::is_named(idx, b[i * 3], b[i * 3 + 1], b[i * 3 + 2]) {
             return true;
         }
         i += 1;
@@ -88,21 +68,6 @@ pub fn any_repeated(b: &[u64]) -> bool
     false
 }
 
-// Whether a transition is kept and its old count isn't the one that the table has.
-pub fn is_false_old(t: &[u64], n: usize, idx: u64, old: u64, new: u64) -> bool
-    requires { ⌜ InOrder n (now t) ⌝ }
-    ensures { λ r. ⌜ r ≡ (changes (transition idx old new) && falseOld (rowsOf countRow n (now (t .entry))) (transition idx old new)) ⌝ }
-{
-    if old == new {
-        return false;
-    }
-    let stored = counter_rows::stored_at(t, n, idx);
-    if stored == 0 {
-        return 1 < old;
-    }
-    old != stored
-}
-
 // 5: the old count of a kept transition isn't the stored one.
 pub fn any_false_old(t: &[u64], n: usize, b: &[u64]) -> bool
     requires { ⌜ InOrder n (now t) ⌝ }
@@ -111,7 +76,7 @@ pub fn any_false_old(t: &[u64], n: usize, b: &[u64]) -> bool
     let m = b.len() / 3;
     let mut i = 0;
     while i < m {
-        if is_false_old(t, n, b[i * 3], b[i * 3 + 1], b[i * 3 + 2]) {
+        if transition_checks::is_false_old(t, n, b[i * 3], b[i * 3 + 1], b[i * 3 + 2]) {
             return true;
         }
         i += 1;

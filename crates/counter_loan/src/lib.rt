@@ -1,4 +1,4 @@
-// The alive threshold of a lent record. The work is `counter_shrink`'s, by value; this form alters the record through the loan.
+// The alive threshold of a lent record. The work is `shrink_rules`'s, by value; this form alters the record through the loan.
 use counters::CounterMaintenance;
 ghost use mathlib.Core.Path.{_≡_};
 ghost use Rattle.counters.specs.Maintenance.{standard};
@@ -8,5 +8,5 @@ ghost use Rattle.counters.specs.MaintenanceLaws.{adjusted};
 pub fn adjust_shrink_threshold(m: &mut CounterMaintenance, bytes_saved: u64)
     ensures { λ _. ⌜ now (m .exit) ≡ adjusted standard «bytes_saved» (now (m .entry)) ⌝ }
 {
-    *m = counter_shrink::adjust_shrink_threshold(*m, bytes_saved);
+    *m = shrink_rules::adjust_shrink_threshold(*m, bytes_saved);
 }

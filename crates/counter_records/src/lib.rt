@@ -80,11 +80,11 @@ fn sums_with(t: &[u64], c: Counters, a: Sums, idx: u64, old: u64, new: u64) -> S
     Sums {
         unallocated: either(
             a.unallocated,
-            counter_checks::is_unallocated(c.next_idx.0, idx, old, new),
+            transition_checks::is_unallocated(c.next_idx.0, idx, old, new),
         ),
         false_old: either(
             a.false_old,
-            counter_checks::is_false_old(t, c.stored, idx, old, new),
+            transition_checks::is_false_old(t, c.stored, idx, old, new),
         ),
         births: a.births + counter_steps::counts(Kind::Birth, idx, old, new),
         deaths: a.deaths + counter_steps::counts(Kind::Death, idx, old, new),
@@ -314,7 +314,10 @@ fn ask_again(t: &[u64], s: Walk, idx: u64, old: u64, new: u64) -> Walk
         len: s.len,
         of: s.of,
         seek: s.seek,
-        repeated: either(s.repeated, counter_checks::is_named(s.seek, idx, old, new)),
+        repeated: either(
+            s.repeated,
+            transition_checks::is_named(s.seek, idx, old, new),
+        ),
         sums,
         rows: s.rows,
         answer,

@@ -1,4 +1,4 @@
-// Maintenance: when to shrink, and what is left of the removal counts.
+// Maintenance: what shrinks, by the rules of `shrink_rules`, and what is left of the removal counts.
 use base::Answer;
 use base::Refusal;
 use counters::CounterMaintenance;
@@ -14,63 +14,10 @@ ghost use Rattle.counters.specs.Counts as counts;
 ghost use Rattle.counters.specs.Layout.{countRow};
 ghost use Rattle.counters.specs.Layout as layout;
 ghost use Rattle.counters.specs.Calls.{shrinkCall};
-ghost use Rattle.counters.specs.Maintenance.{standard, setMinimum, shouldShrink, adjustShrinkThreshold, setsShrink, resetWhere, shrunk};
-ghost use Rattle.counters.specs.MaintenanceLaws.{adjusted};
-
-// The alive threshold starts here, and starts again after a good save.
-const BASE: u64 = 131_072;
-
-// The alive threshold doubles up to this.
-const MOST: u64 = 2_097_152;
-
-// From so many bytes saved on, a save is good.
-const GOOD_SAVE: u64 = 1_048_576;
+ghost use Rattle.counters.specs.Maintenance.{standard, setMinimum, shouldShrink, setsShrink, resetWhere, shrunk};
 
 // A set doesn't shrink before so many removals.
 const SET_MINIMUM: u64 = 65_536;
-
-// Whether to shrink what holds alive items. 3 × removed could be too large a number, so a third of alive is compared.
-pub fn should_shrink(alive: u64, removed_since_shrink: u64, min_removed: u64) -> bool
-    ensures { λ r. ⌜ r ≡ shouldShrink alive «removed_since_shrink» «min_removed» ⌝ }
-{
-    if removed_since_shrink == 0 {
-        return false;
-    }
-    if alive == 0 {
-        return true;
-    }
-    if removed_since_shrink < min_removed {
-        return false;
-    }
-    (alive - 1) / 3 < removed_since_shrink
-}
-
-// The alive threshold after a shrink that saved some bytes.
-fn threshold_after(threshold: u64, saved: u64) -> u64
-    ensures { λ r. ⌜ r ≡ adjustShrinkThreshold standard saved threshold ⌝ }
-{
-    if GOOD_SAVE <= saved {
-        return BASE;
-    }
-    if MOST / 2 < threshold {
-        return MOST;
-    }
-    threshold * 2
-}
-
-// After an alive shrink that saved some bytes: only the threshold moves.
-pub fn adjust_shrink_threshold(
-    mut after: CounterMaintenance,
-    bytes_saved: u64,
-) -> CounterMaintenance
-    ensures { λ r. ⌜ r ≡ adjusted standard «bytes_saved» after ⌝ }
-{
-    after.min_alive_removed_before_shrink = threshold_after(
-        after.min_alive_removed_before_shrink,
-        bytes_saved,
-    );
-    after
-}
 
 // Whether set k shrinks. Where nothing was removed it doesn't, and its members aren't counted.
 fn should_shrink_set(t: &[u64], n: usize, k: u32, removed: u64) -> bool
@@ -80,7 +27,7 @@ fn should_shrink_set(t: &[u64], n: usize, k: u32, removed: u64) -> bool
     if removed == 0 {
         return false;
     }
-    should_shrink(counter_sets::members(t, n, k), removed, SET_MINIMUM)
+    shrink_rules::should_shrink(counter_sets::members(t, n, k), removed, SET_MINIMUM)
 }
 
 // Which of the eight sets shrink, by their removal counts.
@@ -135,7 +82,7 @@ fn maintenance_after(
     after.alive_removed_since_shrink = left_after(alive, m.alive_removed_since_shrink);
     after.small_removed_since_shrink = left;
     if alive {
-        return adjust_shrink_threshold(after, saved);
+        return shrink_rules::adjust_shrink_threshold(after, saved);
     }
     after
 }
@@ -149,7 +96,7 @@ pub fn shrink_held(c: Counters, t: &[u64], saved: u64) -> Shrunk
     let m = c.maintenance;
     let removed = m.small_removed_since_shrink;
     let small = sets_shrink(t, n, removed);
-    let alive = should_shrink(
+    let alive = shrink_rules::should_shrink(
         n as u64,
         m.alive_removed_since_shrink,
         m.min_alive_removed_before_shrink,

@@ -1,18 +1,14 @@
-// The calls that make the lent table of counts anew or read it: fresh counters, allocation, the count at an index.
+// Fresh counters in a lent table, and allocation, which is lent none.
 use base::Answer;
 use base::Refusal;
 use counters::Allocated;
 use counters::CounterMaintenance;
 use counters::Counters;
-use counters::Got;
 use counters::Idx;
 use counters::NextIdx;
-use counters::RefCount;
 ghost use mathlib.Core.Path.{_≡_};
-ghost use mathlib.Core.Bool.{true};
-ghost use Rattle.counters.specs.Layout as layout;
 ghost use Rattle.counters.specs.Maintenance.{standard};
-ghost use Rattle.counters.specs.Calls.{made, newCall, allocCall, getCall};
+ghost use Rattle.counters.specs.Calls.{made, newCall, allocCall};
 
 // Fresh counters at a next index, in a table of any content.
 pub fn new(next_idx: NextIdx, t: &mut [u64]) -> Counters
@@ -55,42 +51,4 @@ pub fn alloc_idx(c: Counters) -> Allocated
             maintenance,
         },
     }
-}
-
-// The count at idx, where the record and the table hold a state: a search and no pass, for callers that own their table.
-pub fn get_held(c: Counters, t: &[u64], idx: Idx) -> Got
-    requires { ⌜ layout.holds c (now t) ≡ true ⌝ }
-    ensures { λ r. ⌜ r ≡ getCall c (now (t .entry)) idx ⌝ }
-{
-    if c.next_idx.0 <= idx.0 {
-        return Got {
-            answer: Answer::Refused(Refusal::Unallocated),
-            count: RefCount(0),
-        };
-    }
-    let n = c.stored;
-    let stored = counter_rows::stored_at(t, n, idx.0);
-    if stored == 0 {
-        return Got {
-            answer: Answer::Taken,
-            count: RefCount(1),
-        };
-    }
-    Got {
-        answer: Answer::Taken,
-        count: RefCount(stored),
-    }
-}
-
-// The count at idx.
-pub fn get(c: Counters, t: &[u64], idx: Idx) -> Got
-    ensures { λ r. ⌜ r ≡ getCall c (now (t .entry)) idx ⌝ }
-{
-    if !counter_rows::holds(c, t) {
-        return Got {
-            answer: Answer::Refused(Refusal::Broken),
-            count: RefCount(0),
-        };
-    }
-    get_held(c, t, idx)
 }

@@ -55,7 +55,7 @@ pub extern "C" fn selvaigo_get(state: &[u64], counts: &[u64], idx: u64, count: &
         return broken();
     }
     let c = counters_of(state);
-    let x = counter_table::get(c, counts, Idx(idx));
+    let x = counter_lookup::get(c, counts, Idx(idx));
     put_got(x, count)
 }
 
@@ -71,6 +71,6 @@ pub extern "C" fn selvaigo_get_held(
     ensures { λ r. ⌜ said r (now (count .exit) ∷ []) [] ≡ getSaid (now (state .entry)) (now (counts .entry)) idx ⌝ }
 {
     let c = counters_of(state);
-    let x = counter_table::get_held(c, counts, Idx(idx));
+    let x = counter_lookup::get_held(c, counts, Idx(idx));
     put_got(x, count)
 }

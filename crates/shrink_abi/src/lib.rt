@@ -56,7 +56,7 @@ pub extern "C" fn selvaigo_should_shrink(
 ) -> u8
     ensures { λ r. ⌜ r ≡ bit (shouldShrink alive «removed_since_shrink» «min_removed») ⌝ }
 {
-    counter_shrink::should_shrink(alive, removed_since_shrink, min_removed) as u8
+    shrink_rules::should_shrink(alive, removed_since_shrink, min_removed) as u8
 }
 
 // The threshold that follows a shrink which saved so many bytes. No removal count has a part in it.
@@ -72,6 +72,6 @@ pub extern "C" fn selvaigo_adjust_shrink_threshold(
         small_removed_since_shrink: [0; 8],
         min_alive_removed_before_shrink,
     };
-    let after = counter_shrink::adjust_shrink_threshold(m, bytes_saved);
+    let after = shrink_rules::adjust_shrink_threshold(m, bytes_saved);
     after.min_alive_removed_before_shrink
 }

@@ -44,10 +44,10 @@ use Rattle.counters.specs.Maintenance.{standard}
 use Rattle.counters.specs.MaintenanceLaws.{adjusted}
 use Rattle.counters.proofs.CounterMaintenance as T
 use Rattle.counters.proofs.CounterMaintenance.Laws as T′
-use Rattle.counter_shrink.proofs.adjust_shrink_threshold as by-value
-use Rattle.counter_shrink.proofs.adjust_shrink_threshold.Symbol as by-value-def
-use Rattle.counter_shrink.proofs.adjust_shrink_threshold.Symbol.{name as #by-value}
-use Rattle.counter_shrink.proofs.adjust_shrink_threshold.Met as by-value-thm
+use Rattle.shrink_rules.proofs.adjust_shrink_threshold as by-value
+use Rattle.shrink_rules.proofs.adjust_shrink_threshold.Symbol as by-value-def
+use Rattle.shrink_rules.proofs.adjust_shrink_threshold.Symbol.{name as #by-value}
+use Rattle.shrink_rules.proofs.adjust_shrink_threshold.Met as by-value-thm
 use Rattle.counter_loan.proofs.adjust_shrink_threshold.Key.{name as #adjust}
 use Rattle.counter_loan.proofs.adjust_shrink_threshold as adjust
 use Rattle.counter_loan.proofs.adjust_shrink_threshold.Statement as stated
@@ -147,4 +147,4 @@ adjust-shrink-threshold-spec 𝓤 H 𝓜 𝓖 𝓡 =
     entered 𝓤 H (tripleOf 𝓤 H (𝓖 .A) adjust.signature (adjust.spec 𝓤 H (𝓖 .A) (𝓜 .mem) (𝓡 .run)))
     (tables 𝓤 H 𝓜 𝓡 code.env .C) (tables 𝓤 H 𝓜 𝓡 code.env .Λ) #adjust code.function (code.unfolded 𝓤 H 𝓜 𝓡)
     (adjust-meets 𝓤 H (𝓖 .A) (givenOf 𝓤 H 𝓜 𝓖) (𝓜 .mem) (𝓡 .run) (tablesOf 𝓤 H 𝓜 (tables 𝓤 H 𝓜 𝓡 code.env))
-    (cited 𝓤 H (ByValue 𝓤 H (𝓖 .A) (𝓜 .mem) (𝓡 .run)) 𝓜 𝓡 code.env #by-value by-value-def.routine code.calls-counter-shrink·adjust-shrink-threshold (by-value-thm.met 𝓤 H 𝓜 𝓖 𝓡)))
+    (cited 𝓤 H (ByValue 𝓤 H (𝓖 .A) (𝓜 .mem) (𝓡 .run)) 𝓜 𝓡 code.env #by-value by-value-def.routine code.calls-shrink-rules·adjust-shrink-threshold (by-value-thm.met 𝓤 H 𝓜 𝓖 𝓡)))

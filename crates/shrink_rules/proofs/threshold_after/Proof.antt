@@ -1,7 +1,7 @@
 use Rattle.counters.specs.MaintenanceLaws.{good-save, far-threshold, doubled}
 use borrow.Author.Needs.{needs}
-use Rattle.counter_shrink.proofs.threshold_after.Statement.{statement}
-use Rattle.counter_shrink.proofs.threshold_after.Tie as tie
+use Rattle.shrink_rules.proofs.threshold_after.Statement.{statement}
+use Rattle.shrink_rules.proofs.threshold_after.Tie as tie
 
 returns : tie.Need-returns
 returns c = let a = c .before .args in good-save (a .saved) (a .threshold) (c .if1 .taken)

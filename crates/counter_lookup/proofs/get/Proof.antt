@@ -2,8 +2,8 @@ use mathlib.Core.Path.{sym, _∙_}
 use borrow.Author.Needs.{needs}
 use borrow.Author.Tests.{not-true, not-false}
 use Rattle.counters.specs.ReadLaws.{get-broken-table}
-use Rattle.counter_table.proofs.get.Statement.{statement}
-use Rattle.counter_table.proofs.get.Tie as tie
+use Rattle.counter_lookup.proofs.get.Statement.{statement}
+use Rattle.counter_lookup.proofs.get.Tie as tie
 
 holds-requires : tie.Need-holds-requires
 holds-requires c κs = search needs

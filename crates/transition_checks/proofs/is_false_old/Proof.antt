@@ -5,8 +5,8 @@ use Rattle.counters.specs.Batch.{falseOld}
 use Rattle.counters.specs.Steps.{transition}
 use Rattle.counters.specs.StepLaws.{unchanged, changed}
 use Rattle.counters.specs.StepLaws.{false-old-none, false-old-stored}
-use Rattle.counter_checks.proofs.is_false_old.Statement.{statement}
-use Rattle.counter_checks.proofs.is_false_old.Tie as tie
+use Rattle.transition_checks.proofs.is_false_old.Statement.{statement}
+use Rattle.transition_checks.proofs.is_false_old.Tie as tie
 
 returns : tie.Need-returns
 returns c = let a = c .before .before .args in unchanged (a .idx) (a .old) (a .new) (falseOld (rowsOf countRow (a .n) (a .t .now)) (transition (a .idx) (a .old) (a .new))) (c .if1 .taken)

@@ -1,7 +1,7 @@
 use lib.Dec.{eqb}
 use Rattle.counters.specs.StepLaws.{unchanged, changed}
-use Rattle.counter_checks.proofs.is_named.Statement.{statement}
-use Rattle.counter_checks.proofs.is_named.Tie as tie
+use Rattle.transition_checks.proofs.is_named.Statement.{statement}
+use Rattle.transition_checks.proofs.is_named.Tie as tie
 
 returns : tie.Need-returns
 returns c = let a = c .before .args in unchanged (a .idx) (a .old) (a .new) (eqb (a .seek) (a .idx)) (c .if1 .taken)

@@ -1,8 +1,8 @@
 use native.Mathlib.Omega.{arith}
 use Rattle.counters.specs.RowLaws.{in-order}
 use Rattle.counters.specs.ReadLaws.{get-far, get-count}
-use Rattle.counter_table.proofs.get_held.Statement.{statement}
-use Rattle.counter_table.proofs.get_held.Tie as tie
+use Rattle.counter_lookup.proofs.get_held.Statement.{statement}
+use Rattle.counter_lookup.proofs.get_held.Tie as tie
 
 returns : tie.Need-returns
 returns c =

@@ -1,8 +1,8 @@
 use Rattle.counters.specs.Batch.{unallocated}
 use Rattle.counters.specs.Steps.{transition}
 use Rattle.counters.specs.StepLaws.{unchanged, changed}
-use Rattle.counter_checks.proofs.is_unallocated.Statement.{statement}
-use Rattle.counter_checks.proofs.is_unallocated.Tie as tie
+use Rattle.transition_checks.proofs.is_unallocated.Statement.{statement}
+use Rattle.transition_checks.proofs.is_unallocated.Tie as tie
 
 returns : tie.Need-returns
 returns c = let a = c .before .args in unchanged (a .idx) (a .old) (a .new) (unallocated (a .next) (transition (a .idx) (a .old) (a .new))) (c .if1 .taken)

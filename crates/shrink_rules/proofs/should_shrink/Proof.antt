@@ -1,7 +1,7 @@
 use Rattle.counters.specs.MaintenanceLaws.{none-removed, none-alive, few-removed, third-removed}
 use borrow.Author.Needs.{needs}
-use Rattle.counter_shrink.proofs.should_shrink.Statement.{statement}
-use Rattle.counter_shrink.proofs.should_shrink.Tie as tie
+use Rattle.shrink_rules.proofs.should_shrink.Statement.{statement}
+use Rattle.shrink_rules.proofs.should_shrink.Tie as tie
 
 returns : tie.Need-returns
 returns c = let a = c .before .args in none-removed (a .alive) (a .removed-since-shrink) (a .min-removed) (c .if1 .taken)

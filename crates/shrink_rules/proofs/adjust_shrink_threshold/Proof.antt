@@ -1,6 +1,6 @@
 use borrow.Author.Needs.{needs}
-use Rattle.counter_shrink.proofs.adjust_shrink_threshold.Statement.{statement}
-use Rattle.counter_shrink.proofs.adjust_shrink_threshold.Tie as tie
+use Rattle.shrink_rules.proofs.adjust_shrink_threshold.Statement.{statement}
+use Rattle.shrink_rules.proofs.adjust_shrink_threshold.Tie as tie
 
 threshold-after-requires : tie.Need-threshold-after-requires
 threshold-after-requires c κs = search needs
