@@ -2,9 +2,9 @@ use mathlib.Core.Path.{refl, sym, _∙_}
 use native.Mathlib.Omega.{arith}
 use borrow.Author.Needs.{needs}
 use borrow.Author.Tests.{not-true, not-false}
-use Rattle.counter_records.specs.TurnLaws.{begins-broken, begins, few-rows}
-use Rattle.counter_records.proofs.begin.Statement.{statement}
-use Rattle.counter_records.proofs.begin.Tie as tie
+use Rattle.counter_walk.specs.TurnLaws.{begins-broken, begins, few-rows}
+use Rattle.counter_walk.proofs.begin.Statement.{statement}
+use Rattle.counter_walk.proofs.begin.Tie as tie
 
 start-requires : tie.Need-start-requires
 start-requires c κs = search needs

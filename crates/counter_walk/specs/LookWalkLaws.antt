@@ -18,13 +18,13 @@ use Rattle.counters.specs.Batch.{changes, kept, named}
 use Rattle.counters.specs.Layout.{countRow}
 use Rattle.counters.specs.Steps.{transition}
 use Rattle.counters.specs.StepLaws.{once-none}
-use Rattle.counter_records.specs.declared.Phase.the-variants.{Look, Again}
-use Rattle.counter_records.specs.declared.Walk.{Walk}
-use Rattle.counter_records.specs.SumsWalkLaws.{or-assoc, or-none, elem-cons, twice-cons, sums-cons, settled-with, tallies-with, sums-none, elem-none}
-use Rattle.counter_records.specs.Walk as walk
-use Rattle.counter_records.specs.Walk.{sumsWith, moved, onTo, looked, askedAgain}
-use Rattle.counter_records.specs.InvWalkLaws.{entries, allSums, SummedTo, Looking, Asking, looking, asking, pairs, leftIn, Lands, pairs-next}
-use Rattle.counter_records.specs.JudgeWalkLaws.{judge-lands}
+use Rattle.counter_walk.specs.declared.Phase.the-variants.{Look, Again}
+use Rattle.counter_walk.specs.declared.Walk.{Walk}
+use Rattle.counter_walk.specs.SumsWalkLaws.{or-assoc, or-none, elem-cons, twice-cons, sums-cons, settled-with, tallies-with, sums-none, elem-none}
+use Rattle.counter_walk.specs.Walk as walk
+use Rattle.counter_walk.specs.Walk.{sumsWith, moved, onTo, looked, askedAgain}
+use Rattle.counter_walk.specs.InvWalkLaws.{entries, allSums, SummedTo, Looking, Asking, looking, asking, pairs, leftIn, Lands, pairs-next}
+use Rattle.counter_walk.specs.JudgeWalkLaws.{judge-lands}
 
 -- ---- from record to record, while nothing is written
 module _ (c : Counters) (t₀ : List ℕ) (bs : List CounterTransition) where

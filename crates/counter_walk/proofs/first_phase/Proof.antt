@@ -1,6 +1,6 @@
 use borrow.Author.Tests.{eq-eqb, ne-eqb}
-use Rattle.counter_records.proofs.first_phase.Statement.{statement}
-use Rattle.counter_records.proofs.first_phase.Tie as tie
+use Rattle.counter_walk.proofs.first_phase.Statement.{statement}
+use Rattle.counter_walk.proofs.first_phase.Tie as tie
 
 returns : tie.Need-returns
 returns c = rw (eq-eqb _ 0 (c .if1 .taken))

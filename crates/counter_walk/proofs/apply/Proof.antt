@@ -1,12 +1,12 @@
 use mathlib.Core.Path.{ap, _∙_}
 use Prim.Native.Nat.{_+_}
 use borrow.Author.Needs.{needs}
-use Rattle.counter_records.specs.declared.Phase.the-variants.{Store, End}
-use Rattle.counter_records.specs.declared.Walk.{Walk}
-use Rattle.counter_records.specs.Walk.{moved}
-use Rattle.counter_records.specs.TurnLaws.{applies-on, applied-all, applies-others, applied-table}
-use Rattle.counter_records.proofs.apply.Statement.{statement}
-use Rattle.counter_records.proofs.apply.Tie as tie
+use Rattle.counter_walk.specs.declared.Phase.the-variants.{Store, End}
+use Rattle.counter_walk.specs.declared.Walk.{Walk}
+use Rattle.counter_walk.specs.Walk.{moved}
+use Rattle.counter_walk.specs.TurnLaws.{applies-on, applied-all, applies-others, applied-table}
+use Rattle.counter_walk.proofs.apply.Statement.{statement}
+use Rattle.counter_walk.proofs.apply.Tie as tie
 
 apply-one-requires : tie.Need-apply-one-requires
 apply-one-requires c κs = search needs

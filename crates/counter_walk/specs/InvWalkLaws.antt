@@ -19,14 +19,14 @@ use Rattle.counters.specs.Held.{Judged}
 use Rattle.counters.specs.Calls.{changed, batchCall}
 use Rattle.counters.specs.Steps.{some}
 use Rattle.counters.specs.KeptLaws.{first-fits}
-use Rattle.counter_records.specs.declared.Phase.{Phase}
-use Rattle.counter_records.specs.declared.Phase.the-variants.{Look, Again, Free, Store, End}
-use Rattle.counter_records.specs.declared.Sums.{Sums}
-use Rattle.counter_records.specs.declared.Walk.{Walk}
-use Rattle.counter_records.specs.SomeLaws.{Seen}
-use Rattle.counter_records.specs.Words.{wordsOf, words-transitions}
-use Rattle.counter_records.specs.SumsWalkLaws.{sumsOf, noSums}
-use Rattle.counter_records.specs.Walk.{finished}
+use Rattle.counter_walk.specs.declared.Phase.{Phase}
+use Rattle.counter_walk.specs.declared.Phase.the-variants.{Look, Again, Free, Store, End}
+use Rattle.counter_walk.specs.declared.Sums.{Sums}
+use Rattle.counter_walk.specs.declared.Walk.{Walk}
+use Rattle.counter_walk.specs.SomeLaws.{Seen}
+use Rattle.counter_walk.specs.Words.{wordsOf, words-transitions}
+use Rattle.counter_walk.specs.SumsWalkLaws.{sumsOf, noSums}
+use Rattle.counter_walk.specs.Walk.{finished}
 
 -- what the types of the arguments bound: lengths, and removal counts of 64 bits, which a batch with no removal leaves as they are
 pub record Limits (c : Counters) (t₀ : List ℕ) (bs : List CounterTransition) : Type 0 where

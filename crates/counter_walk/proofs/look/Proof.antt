@@ -3,9 +3,9 @@ use mathlib.Core.Logic.{⊎-elim, inl, inr}
 use borrow.Author.Needs.{needs}
 use Rattle.rows.specs.Table.{rowsOf}
 use Rattle.counters.specs.Layout.{countRow}
-use Rattle.counter_records.specs.TurnLaws.{few-more, look-asks, look-goes-on}
-use Rattle.counter_records.proofs.look.Statement.{statement}
-use Rattle.counter_records.proofs.look.Tie as tie
+use Rattle.counter_walk.specs.TurnLaws.{few-more, look-asks, look-goes-on}
+use Rattle.counter_walk.proofs.look.Statement.{statement}
+use Rattle.counter_walk.proofs.look.Tie as tie
 
 sums-with-requires : tie.Need-sums-with-requires
 sums-with-requires c κs = search needs

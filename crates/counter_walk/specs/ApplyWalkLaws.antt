@@ -18,14 +18,14 @@ use Rattle.counters.specs.Counts.{Entry}
 use Rattle.counters.specs.Layout.{countRow}
 use Rattle.counters.specs.Steps.{transition, applyOne}
 use Rattle.counters.specs.ApplyLaws.{two-passes}
-use Rattle.counter_records.specs.declared.Phase.{Phase}
-use Rattle.counter_records.specs.declared.Phase.the-variants.{Free, Store, End}
-use Rattle.counter_records.specs.declared.Walk.{Walk}
-use Rattle.counter_records.specs.SomeLaws.{Seen, seen-one, seen-all}
-use Rattle.counter_records.specs.Words.{words-transitions}
-use Rattle.counter_records.specs.Walk.{moved, applied, appliedTable, withRows}
-use Rattle.counter_records.specs.InvWalkLaws.{entries, goal, Applying, applying, over, goal-fits, leftIn, Lands}
-use Rattle.counter_records.specs.JudgeWalkLaws.{taken-over}
+use Rattle.counter_walk.specs.declared.Phase.{Phase}
+use Rattle.counter_walk.specs.declared.Phase.the-variants.{Free, Store, End}
+use Rattle.counter_walk.specs.declared.Walk.{Walk}
+use Rattle.counter_walk.specs.SomeLaws.{Seen, seen-one, seen-all}
+use Rattle.counter_walk.specs.Words.{words-transitions}
+use Rattle.counter_walk.specs.Walk.{moved, applied, appliedTable, withRows}
+use Rattle.counter_walk.specs.InvWalkLaws.{entries, goal, Applying, applying, over, goal-fits, leftIn, Lands}
+use Rattle.counter_walk.specs.JudgeWalkLaws.{taken-over}
 
 -- ---- a record is applied
 module _ (c : Counters) (t₀ : List ℕ) (bs : List CounterTransition) (s : Walk) (t : List ℕ) (h : s .at < length bs) where

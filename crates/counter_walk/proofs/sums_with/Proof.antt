@@ -6,9 +6,9 @@ use Rattle.rows.specs.Table.{rowsOf}
 use Rattle.counters.specs.declared.Kind.the-variants.{Birth, Death, Rise, Fall}
 use Rattle.counters.specs.Layout.{countRow}
 use Rattle.counters.specs.Steps.{transition}
-use Rattle.counter_records.specs.TurnLaws.{tally-grows, sums-are}
-use Rattle.counter_records.proofs.sums_with.Statement.{statement}
-use Rattle.counter_records.proofs.sums_with.Tie as tie
+use Rattle.counter_walk.specs.TurnLaws.{tally-grows, sums-are}
+use Rattle.counter_walk.proofs.sums_with.Statement.{statement}
+use Rattle.counter_walk.proofs.sums_with.Tie as tie
 
 slice-aggregate-maintained-by : tie.Need-slice-aggregate-maintained-by
 slice-aggregate-maintained-by c = search needs

@@ -2,9 +2,9 @@ use mathlib.Core.Path.{sym, _∙_}
 use Prim.Native.Nat.{_/_}
 use lib.ListN.{length}
 use borrow.Author.Needs.{needs}
-use Rattle.counter_records.specs.TurnLaws.{unallocated-ends, repeated-ends, false-old-ends, off-total-ends, full-ends, passes, total-fits}
-use Rattle.counter_records.proofs.judged.Statement.{statement}
-use Rattle.counter_records.proofs.judged.Tie as tie
+use Rattle.counter_walk.specs.TurnLaws.{unallocated-ends, repeated-ends, false-old-ends, off-total-ends, full-ends, passes, total-fits}
+use Rattle.counter_walk.proofs.judged.Statement.{statement}
+use Rattle.counter_walk.proofs.judged.Tie as tie
 
 ended-requires : tie.Need-ended-requires
 ended-requires c κs = search needs

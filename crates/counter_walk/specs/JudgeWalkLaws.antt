@@ -25,16 +25,16 @@ use Rattle.counters.specs.Steps.{transitions, some}
 use Rattle.counters.specs.JudgeLaws as judge
 use Rattle.counters.specs.JudgeLaws.{judge-unallocated, judge-repeated, judge-false-old, judge-off-total, rows-after, judge-full, judge-taken, total-of}
 use Rattle.counters.specs.RowLaws.{in-order}
-use Rattle.counter_records.specs.declared.Phase.{Phase}
-use Rattle.counter_records.specs.declared.Phase.the-variants.{Free, End}
-use Rattle.counter_records.specs.declared.Sums.{Sums}
-use Rattle.counter_records.specs.declared.Walk.{Walk}
-use Rattle.counter_records.specs.SomeLaws.{Seen, seen-all}
-use Rattle.counter_records.specs.Words.{wordsOf, words-whole, words-transitions}
-use Rattle.counter_records.specs.SumsWalkLaws.{sumsOf}
-use Rattle.counter_records.specs.Walk as walk
-use Rattle.counter_records.specs.Walk.{moved, ended, accepted, finished}
-use Rattle.counter_records.specs.InvWalkLaws.{entries, allSums, SummedTo, Passed, almostAfter, goal, applying, over, goal-fits, leftIn, Lands}
+use Rattle.counter_walk.specs.declared.Phase.{Phase}
+use Rattle.counter_walk.specs.declared.Phase.the-variants.{Free, End}
+use Rattle.counter_walk.specs.declared.Sums.{Sums}
+use Rattle.counter_walk.specs.declared.Walk.{Walk}
+use Rattle.counter_walk.specs.SomeLaws.{Seen, seen-all}
+use Rattle.counter_walk.specs.Words.{wordsOf, words-whole, words-transitions}
+use Rattle.counter_walk.specs.SumsWalkLaws.{sumsOf}
+use Rattle.counter_walk.specs.Walk as walk
+use Rattle.counter_walk.specs.Walk.{moved, ended, accepted, finished}
+use Rattle.counter_walk.specs.InvWalkLaws.{entries, allSums, SummedTo, Passed, almostAfter, goal, applying, over, goal-fits, leftIn, Lands}
 
 -- as many rows more on both sides
 same-room : (r n f : ℕ) → ltb (r + f) (n + f) ≡ ltb r n

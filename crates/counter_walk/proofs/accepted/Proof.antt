@@ -1,6 +1,6 @@
 use borrow.Author.Needs.{needs}
-use Rattle.counter_records.proofs.accepted.Statement.{statement}
-use Rattle.counter_records.proofs.accepted.Tie as tie
+use Rattle.counter_walk.proofs.accepted.Statement.{statement}
+use Rattle.counter_walk.proofs.accepted.Tie as tie
 
 add-t7 : tie.Need-add-t7
 add-t7 c = search needs

@@ -2,9 +2,9 @@ use mathlib.Core.Path.{_∙_}
 use Prim.Native.Nat.{_/_}
 use lib.ListN.{length}
 use borrow.Author.Needs.{needs}
-use Rattle.counter_records.specs.TurnLaws.{goes-on, goes-to-tests}
-use Rattle.counter_records.proofs.on_to.Statement.{statement}
-use Rattle.counter_records.proofs.on_to.Tie as tie
+use Rattle.counter_walk.specs.TurnLaws.{goes-on, goes-to-tests}
+use Rattle.counter_walk.proofs.on_to.Statement.{statement}
+use Rattle.counter_walk.proofs.on_to.Tie as tie
 
 moved-to-requires : tie.Need-moved-to-requires
 moved-to-requires c κs = search needs

@@ -17,17 +17,17 @@ use Rattle.counters.specs.Steps.{transition}
 use Rattle.counters.specs.LayoutLaws.{held}
 use Rattle.counters.specs.JudgeLaws.{judge-broken}
 use Rattle.counters.specs.RowLaws.{in-order}
-use Rattle.counter_records.specs.declared.Phase.{Phase}
-use Rattle.counter_records.specs.declared.Phase.the-variants.{Look, Again, Free, Store}
-use Rattle.counter_records.specs.declared.Walk.{Walk}
-use Rattle.counter_records.specs.SomeLaws.{one-has-room}
-use Rattle.counter_records.specs.Words.{wordsOf}
-use Rattle.counter_records.specs.SumsWalkLaws.{in-range}
-use Rattle.counter_records.specs.Walk.{ended, onTo, started, begun, looked, askedAgain, turned, turnedTable, finished, ApplyReady, Ready}
-use Rattle.counter_records.specs.InvWalkLaws.{Limits, SummedTo, Looking, Asking, goal, Applying, AtPhase, looking, asking, applying, over, Inv, goal-fits, pairs, leftIn, left, Lands}
-use Rattle.counter_records.specs.LookWalkLaws.{on-lands, look-lands, ask-lands}
-use Rattle.counter_records.specs.ApplyWalkLaws.{apply-lands}
-pub use Rattle.counter_records.specs.InvWalkLaws.{Inv, Limits, left}
+use Rattle.counter_walk.specs.declared.Phase.{Phase}
+use Rattle.counter_walk.specs.declared.Phase.the-variants.{Look, Again, Free, Store}
+use Rattle.counter_walk.specs.declared.Walk.{Walk}
+use Rattle.counter_walk.specs.SomeLaws.{one-has-room}
+use Rattle.counter_walk.specs.Words.{wordsOf}
+use Rattle.counter_walk.specs.SumsWalkLaws.{in-range}
+use Rattle.counter_walk.specs.Walk.{ended, onTo, started, begun, looked, askedAgain, turned, turnedTable, finished, ApplyReady, Ready}
+use Rattle.counter_walk.specs.InvWalkLaws.{Limits, SummedTo, Looking, Asking, goal, Applying, AtPhase, looking, asking, applying, over, Inv, goal-fits, pairs, leftIn, left, Lands}
+use Rattle.counter_walk.specs.LookWalkLaws.{on-lands, look-lands, ask-lands}
+use Rattle.counter_walk.specs.ApplyWalkLaws.{apply-lands}
+pub use Rattle.counter_walk.specs.InvWalkLaws.{Inv, Limits, left}
 
 -- ---- the walk before its first record, before each, and after the last
 module _ (c : Counters) (t₀ : List ℕ) (bs : List CounterTransition) where

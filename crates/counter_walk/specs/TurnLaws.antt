@@ -25,11 +25,11 @@ use Rattle.counters.specs.Batch.{changes, kept, unallocated, falseOld}
 use Rattle.counters.specs.Maintenance.{maintained}
 use Rattle.counters.specs.RowLaws.{in-order}
 use Rattle.counters.specs.Steps.{transition, transitions, ofKind, applyOne}
-use Rattle.counter_records.specs.declared.Phase.{Phase}
-use Rattle.counter_records.specs.declared.Phase.the-variants.{Look, Again, Free, Store, End}
-use Rattle.counter_records.specs.declared.Sums.{Sums}
-use Rattle.counter_records.specs.declared.Walk.{Walk}
-use Rattle.counter_records.specs.Walk.{sumsWith, moved, ended, withRows, accepted, judged, onTo, started, begun, looked, askedAgain, applied, appliedTable, turned, turnedTable, LookReady, AgainReady, ApplyReady, Ready}
+use Rattle.counter_walk.specs.declared.Phase.{Phase}
+use Rattle.counter_walk.specs.declared.Phase.the-variants.{Look, Again, Free, Store, End}
+use Rattle.counter_walk.specs.declared.Sums.{Sums}
+use Rattle.counter_walk.specs.declared.Walk.{Walk}
+use Rattle.counter_walk.specs.Walk.{sumsWith, moved, ended, withRows, accepted, judged, onTo, started, begun, looked, askedAgain, applied, appliedTable, turned, turnedTable, LookReady, AgainReady, ApplyReady, Ready}
 
 neither : {A : Type 0} (b : Bool) (x y : A) → pick (b && false) x y ≡ y
 neither true x y = refl

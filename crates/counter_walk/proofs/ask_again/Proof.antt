@@ -1,9 +1,9 @@
 use mathlib.Core.Path.{ap, _∙_}
 use mathlib.Core.Bool.{Bool, _||_}
 use borrow.Author.Needs.{needs}
-use Rattle.counter_records.specs.TurnLaws.{asks-on, asked-all}
-use Rattle.counter_records.proofs.ask_again.Statement.{statement}
-use Rattle.counter_records.proofs.ask_again.Tie as tie
+use Rattle.counter_walk.specs.TurnLaws.{asks-on, asked-all}
+use Rattle.counter_walk.proofs.ask_again.Statement.{statement}
+use Rattle.counter_walk.proofs.ask_again.Tie as tie
 
 add-if1 : tie.Need-add-if1
 add-if1 c = search needs

@@ -17,8 +17,8 @@ use Rattle.counters.specs.Counts.{Entry}
 use Rattle.counters.specs.Maintenance.{grown, grownSets, falls, rises, clears, maintained}
 use Rattle.counters.specs.Batch.{changes, birth, death, kept, named, unallocated, falseOld}
 use Rattle.counters.specs.StepLaws.{counted, count-one, elem-named}
-use Rattle.counter_records.specs.declared.Sums.{Sums}
-use Rattle.counter_records.specs.Walk.{sumsWith}
+use Rattle.counter_walk.specs.declared.Sums.{Sums}
+use Rattle.counter_walk.specs.Walk.{sumsWith}
 
 -- the sums with some more transitions
 unfoldable pub sumsOf : ℕ → List Entry → List CounterTransition → Sums → Sums

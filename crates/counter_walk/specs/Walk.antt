@@ -22,10 +22,10 @@ use Rattle.counters.specs.Batch.{changes, kept, unallocated, falseOld}
 use Rattle.counters.specs.Maintenance.{maintained}
 use Rattle.counters.specs.Held.{InOrder}
 use Rattle.counters.specs.Steps.{transition, ofKind, applyOne}
-use Rattle.counter_records.specs.declared.Phase.{Phase}
-use Rattle.counter_records.specs.declared.Phase.the-variants.{Look, Again, Free, Store, End}
-use Rattle.counter_records.specs.declared.Sums.{Sums}
-use Rattle.counter_records.specs.declared.Walk.{Walk}
+use Rattle.counter_walk.specs.declared.Phase.{Phase}
+use Rattle.counter_walk.specs.declared.Phase.the-variants.{Look, Again, Free, Store, End}
+use Rattle.counter_walk.specs.declared.Sums.{Sums}
+use Rattle.counter_walk.specs.declared.Walk.{Walk}
 
 -- the sums with one more transition
 unfoldable pub sumsWith : ℕ → List Entry → CounterTransition → Sums → Sums
