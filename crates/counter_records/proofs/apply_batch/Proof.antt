@@ -1,6 +1,6 @@
 -- `counter_records::apply_batch` meets its contract: a walk of its MIR, by hand. `begin` has the table lent; then each turn of the loop copies a record
 -- out of the slice and has the table lent on to `turn` (`Lent.antt`); at the end `finish` makes the result. All that is known of the three is that
--- they meet their contracts; what the walk comes to is `specs/WalkLaws.antt`.
+-- they meet their contracts; what the walk comes to is `counter_walk`'s `specs/WalkLaws.antt`.
 -- Assumes nothing.
 use mathlib.Core.Path.{_≡_, refl, sym, ap, subst}
 use mathlib.Core.Bool.{Bool}
@@ -61,17 +61,17 @@ use Rattle.counters.proofs.Counters as K
 use Rattle.counters.proofs.Counters.Laws as K′
 use Rattle.counters.proofs.Applied as R
 use Rattle.counters.proofs.Applied.Laws as R′
-use Rattle.counter_records.specs.declared.Walk.{Walk}
-use Rattle.counter_records.specs.Walk.{begun, turned, turnedTable, finished}
-use Rattle.counter_records.specs.Words.{wordsOf}
-use Rattle.counter_records.specs.WalkLaws.{Limits, Inv, left, inv-begin, inv-len, inv-end, inv-ready, inv-turn, inv-measure}
-use Rattle.counter_records.proofs.Walk as S
-use Rattle.counter_records.proofs.Walk.Laws as S′
+use Rattle.counter_walk.specs.declared.Walk.{Walk}
+use Rattle.counter_walk.specs.Walk.{begun, turned, turnedTable, finished}
+use Rattle.counter_walk.specs.Words.{wordsOf}
+use Rattle.counter_walk.specs.WalkLaws.{Limits, Inv, left, inv-begin, inv-len, inv-end, inv-ready, inv-turn, inv-measure}
+use Rattle.counter_walk.proofs.Walk as S
+use Rattle.counter_walk.proofs.Walk.Laws as S′
 use Rattle.counter_records.proofs.Lent.{tableAt, Owned, Kept, lends, takes-back}
-use Rattle.counter_records.proofs.begin as begin
-use Rattle.counter_records.proofs.begin.Symbol as begin-def
-use Rattle.counter_records.proofs.begin.Symbol.{name as #begin}
-use Rattle.counter_records.proofs.begin.Met as begin-thm
+use Rattle.counter_walk.proofs.begin as begin
+use Rattle.counter_walk.proofs.begin.Symbol as begin-def
+use Rattle.counter_walk.proofs.begin.Symbol.{name as #begin}
+use Rattle.counter_walk.proofs.begin.Met as begin-thm
 use Rattle.counter_records.proofs.turn as turn
 use Rattle.counter_records.proofs.turn.Symbol as turn-def
 use Rattle.counter_records.proofs.turn.Symbol.{name as #turn}
@@ -449,6 +449,6 @@ apply-batch-spec 𝓤 H 𝓜 𝓖 𝓡 =
     entered 𝓤 H (tripleOf 𝓤 H (𝓖 .A) apply-batch.signature (apply-batch.spec 𝓤 H (𝓖 .A) (𝓜 .mem) (𝓡 .run)))
     (tables 𝓤 H 𝓜 𝓡 code.env .C) (tables 𝓤 H 𝓜 𝓡 code.env .Λ) #apply-batch code.function (code.unfolded 𝓤 H 𝓜 𝓡)
     (batch-meets 𝓤 H (𝓖 .A) (givenOf 𝓤 H 𝓜 𝓖) (𝓜 .mem) (𝓡 .run) (tablesOf 𝓤 H 𝓜 (tables 𝓤 H 𝓜 𝓡 code.env))
-    (cited 𝓤 H (Begin 𝓤 H (𝓖 .A) (𝓜 .mem) (𝓡 .run)) 𝓜 𝓡 code.env #begin begin-def.routine code.calls-counter-records·begin (begin-thm.met 𝓤 H 𝓜 𝓖 𝓡))
+    (cited 𝓤 H (Begin 𝓤 H (𝓖 .A) (𝓜 .mem) (𝓡 .run)) 𝓜 𝓡 code.env #begin begin-def.routine code.calls-counter-walk·begin (begin-thm.met 𝓤 H 𝓜 𝓖 𝓡))
     (cited 𝓤 H (Turn 𝓤 H (𝓖 .A) (𝓜 .mem) (𝓡 .run)) 𝓜 𝓡 code.env #turn turn-def.routine code.calls-counter-records·turn (turn-thm.met 𝓤 H 𝓜 𝓖 𝓡))
     (cited 𝓤 H (Finish 𝓤 H (𝓖 .A) (𝓜 .mem) (𝓡 .run)) 𝓜 𝓡 code.env #finish finish-def.routine code.calls-counter-records·finish (finish-thm.met 𝓤 H 𝓜 𝓖 𝓡)))

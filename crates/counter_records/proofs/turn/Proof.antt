@@ -1,6 +1,8 @@
+-- `counter_records::turn`.
+-- Assumes nothing.
 use mathlib.Core.Path.{_∙_}
 use borrow.Author.Needs.{needs}
-use Rattle.counter_records.specs.TurnLaws.{ready-look, ready-again, ready-free, ready-store, turn-looks, turn-asks, turn-frees, turn-stores, turn-ends}
+use Rattle.counter_walk.specs.TurnLaws.{ready-look, ready-again, ready-free, ready-store, turn-looks, turn-asks, turn-frees, turn-stores, turn-ends}
 use Rattle.counter_records.proofs.turn.Statement.{statement}
 use Rattle.counter_records.proofs.turn.Tie as tie
 
@@ -24,20 +26,8 @@ ask-again-requires c κs =
 enum-told-3 : tie.Need-enum-told-3
 enum-told-3 c = search needs
 
-apply-requires : tie.Need-apply-requires
-apply-requires c κs =
-    let a = c .before .before .before .before .args in
-    let r = ready-free (a .t .now) (a .s) (a .idx) (a .old) (a .new) (c .before .enum-told3 .given .1) (c .before .before .before .before .pre) in
-    (r .order, (r .fits, r .place))
-
 enum-told-4 : tie.Need-enum-told-4
 enum-told-4 c = search needs
-
-apply-requires-2 : tie.Need-apply-requires-2
-apply-requires-2 c κs =
-    let a = c .before .before .before .before .args in
-    let r = ready-store (a .t .now) (a .s) (a .idx) (a .old) (a .new) (c .before .enum-told4 .given .1) (c .before .before .before .before .pre) in
-    (r .order, (r .fits, r .place))
 
 enum-told-5 : tie.Need-enum-told-5
 enum-told-5 c = search needs
@@ -82,6 +72,18 @@ returns-5 : tie.Need-returns-5
 returns-5 c =
     let a = c .before .before .before .args in
     turn-ends (a .t .now) (a .s) (a .idx) (a .old) (a .new) (c .enum-told5 .given .1)
+
+apply-requires : tie.Need-apply-requires
+apply-requires c κs =
+    let a = c .before .before .before .before .args in
+    let r = ready-free (a .t .now) (a .s) (a .idx) (a .old) (a .new) (c .before .enum-told3 .given .1) (c .before .before .before .before .pre) in
+    (r .order, (r .fits, r .place))
+
+apply-requires-2 : tie.Need-apply-requires-2
+apply-requires-2 c κs =
+    let a = c .before .before .before .before .args in
+    let r = ready-store (a .t .now) (a .s) (a .idx) (a .old) (a .new) (c .before .enum-told4 .given .1) (c .before .before .before .before .pre) in
+    (r .order, (r .fits, r .place))
 
 pub turn-spec : {M : Type 1} → statement M
 turn-spec =
