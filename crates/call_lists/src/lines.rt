@@ -1,11 +1,13 @@
 // A list is lines of text, most of them bytes in hex.
+ghost use mathlib.Core.Path.{_≡_};
 ghost use Prim.Native.Nat.{_≤_};
 ghost use lib.ListN.{length};
+ghost use Rattle.call_lists.specs.Lines.{lineEnd};
 
 // Where the line that `at` is in ends.
 pub fn line_end(s: &[u8], at: usize) -> usize
     requires { ⌜ at ≤ length (now s) ⌝ }
-    ensures { λ r. ⌜ (at ≤ r) × (r ≤ length (now (s .entry))) ⌝ }
+    ensures { λ r. ⌜ (at ≤ r) × (r ≤ length (now (s .entry))) × (r ≡ lineEnd (now (s .entry)) at) ⌝ }
 {
     let mut i = at;
     while i < s.len() {
