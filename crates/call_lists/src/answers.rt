@@ -3,7 +3,11 @@ use byte_numbers::read_le64;
 use byte_numbers::write_le64;
 use byte_slices::copy_at;
 ghost use mathlib.Core.Path.{_≡_};
+ghost use mathlib.Core.List.{[], _∷_};
+ghost use Prim.Native.Nat.{_+_};
+ghost use lib.Dec.{leb};
 ghost use lib.ListN.{length};
+ghost use Rattle.call_lists.specs.Answers.{wordAt, upTo, withBytes, withWord, withWords, answerOf};
 
 // No answer has this length.
 pub const NONE: usize = 300000;
@@ -22,19 +26,33 @@ pub fn room() -> [u8; 66000]
     [0x99; 66000]
 }
 
+// Whether n bytes from a place on lie within a length.
+fn fits(len: usize, at: usize, n: usize) -> bool
+    ensures { λ r. ⌜ r ≡ leb (at + n) len ⌝ }
+{
+    if len < at {
+        return false;
+    }
+    if len - at < n {
+        return false;
+    }
+    true
+}
+
 // The word at a place, and 0 where it isn't all there.
-pub fn word(call: &[u8], at: usize) -> u64 {
-    if call.len() < at {
-        return 0;
+pub fn word(call: &[u8], at: usize) -> u64
+    ensures { λ r. ⌜ r ≡ wordAt (now (call .entry)) at ⌝ }
+{
+    if fits(call.len(), at, 8) {
+        return read_le64(call, at);
     }
-    if call.len() - at < 8 {
-        return 0;
-    }
-    read_le64(call, at)
+    0
 }
 
 // A byte goes into the answer; where the next one goes, and `NONE` where there is no room.
-pub fn put_byte(out: &mut [u8], at: usize, b: u8) -> usize {
+pub fn put_byte(out: &mut [u8], at: usize, b: u8) -> usize
+    ensures { λ r. ⌜ upTo r (now (out .exit)) ≡ withBytes (b ∷ []) (upTo at (now (out .entry))) ⌝ }
+{
     if at < out.len() {
         out[at] = b;
         return at + 1;
@@ -43,19 +61,20 @@ pub fn put_byte(out: &mut [u8], at: usize, b: u8) -> usize {
 }
 
 // The same with a word.
-fn put_word(out: &mut [u8], at: usize, w: u64) -> usize {
-    if out.len() < at {
-        return NONE;
+fn put_word(out: &mut [u8], at: usize, w: u64) -> usize
+    ensures { λ r. ⌜ upTo r (now (out .exit)) ≡ withWord w (upTo at (now (out .entry))) ⌝ }
+{
+    if fits(out.len(), at, 8) {
+        write_le64(out, at, w);
+        return at + 8;
     }
-    if out.len() - at < 8 {
-        return NONE;
-    }
-    write_le64(out, at, w);
-    at + 8
+    NONE
 }
 
 // The same with words, one after the other.
-pub fn put_words(out: &mut [u8], at: usize, words: &[u64]) -> usize {
+pub fn put_words(out: &mut [u8], at: usize, words: &[u64]) -> usize
+    ensures { λ r. ⌜ upTo r (now (out .exit)) ≡ withWords (now (words .entry)) (upTo at (now (out .entry))) ⌝ }
+{
     let mut to = at;
     let mut i = 0;
     while i < words.len() {
@@ -66,40 +85,51 @@ pub fn put_words(out: &mut [u8], at: usize, words: &[u64]) -> usize {
 }
 
 // The number that a call gives, and the words that it writes; where they end.
-pub fn put(out: &mut [u8], number: u8, words: &[u64]) -> usize {
+pub fn put(out: &mut [u8], number: u8, words: &[u64]) -> usize
+    ensures { λ r. ⌜ upTo r (now (out .exit)) ≡ answerOf number (now (words .entry)) (now (out .entry)) ⌝ }
+{
     let at = put_byte(out, 0, number);
     put_words(out, at, words)
 }
 
 // The same with the arrays that calls write: their type says how long they are.
-pub fn put_one(out: &mut [u8], number: u8, words: &[u64; 1]) -> usize {
+pub fn put_one(out: &mut [u8], number: u8, words: &[u64; 1]) -> usize
+    ensures { λ r. ⌜ upTo r (now (out .exit)) ≡ answerOf number (now (words .entry)) (now (out .entry)) ⌝ }
+{
     put(out, number, words)
 }
 
-pub fn put_two(out: &mut [u8], number: u8, words: &[u64; 2]) -> usize {
+pub fn put_two(out: &mut [u8], number: u8, words: &[u64; 2]) -> usize
+    ensures { λ r. ⌜ upTo r (now (out .exit)) ≡ answerOf number (now (words .entry)) (now (out .entry)) ⌝ }
+{
     put(out, number, words)
 }
 
-pub fn put_six(out: &mut [u8], number: u8, words: &[u64; 6]) -> usize {
+pub fn put_six(out: &mut [u8], number: u8, words: &[u64; 6]) -> usize
+    ensures { λ r. ⌜ upTo r (now (out .exit)) ≡ answerOf number (now (words .entry)) (now (out .entry)) ⌝ }
+{
     put(out, number, words)
 }
 
-pub fn put_eight(out: &mut [u8], number: u8, words: &[u64; 8]) -> usize {
+pub fn put_eight(out: &mut [u8], number: u8, words: &[u64; 8]) -> usize
+    ensures { λ r. ⌜ upTo r (now (out .exit)) ≡ answerOf number (now (words .entry)) (now (out .entry)) ⌝ }
+{
     put(out, number, words)
 }
 
 // Bytes go into the answer.
-pub fn put_bytes(out: &mut [u8], at: usize, bytes: &[u8]) -> usize {
-    if out.len() < at {
-        return NONE;
+pub fn put_bytes(out: &mut [u8], at: usize, bytes: &[u8]) -> usize
+    ensures { λ r. ⌜ upTo r (now (out .exit)) ≡ withBytes (now (bytes .entry)) (upTo at (now (out .entry))) ⌝ }
+{
+    if fits(out.len(), at, bytes.len()) {
+        copy_at(out, at, bytes);
+        return at + bytes.len();
     }
-    if out.len() - at < bytes.len() {
-        return NONE;
-    }
-    copy_at(out, at, bytes);
-    at + bytes.len()
+    NONE
 }
 
-pub fn put_hash(out: &mut [u8], at: usize, hash: &[u8; 32]) -> usize {
+pub fn put_hash(out: &mut [u8], at: usize, hash: &[u8; 32]) -> usize
+    ensures { λ r. ⌜ upTo r (now (out .exit)) ≡ withBytes (now (hash .entry)) (upTo at (now (out .entry))) ⌝ }
+{
     put_bytes(out, at, hash)
 }

@@ -1,5 +1,7 @@
 // How many steps of a list agree.
 use libc::STDOUT_FILENO;
+ghost use mathlib.Core.Path.{_≡_};
+ghost use Rattle.call_lists.specs.Tallies.{oneMore};
 
 fn say(text: &[u8]) {
     io::write_all(STDOUT_FILENO, text);
@@ -16,7 +18,9 @@ pub struct Tally {
 }
 
 // One step more. One that doesn't agree is named.
-pub fn counted(t: Tally, good: bool, name: &[u8]) -> Tally {
+pub fn counted(t: Tally, good: bool, name: &[u8]) -> Tally
+    ensures { λ r. ⌜ r ≡ oneMore good t ⌝ }
+{
     let steps = std::num::wrapping_add_u64(t.steps, 1);
     if good {
         return Tally {

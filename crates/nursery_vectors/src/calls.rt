@@ -13,13 +13,6 @@ use listing_abi::selvaigo_snapshot_entries;
 use nursery_abi::selvaigo_apply_commit;
 use reading_abi::selvaigo_read_journal;
 
-// The number and the two words that a call gives.
-struct Said {
-    number: u8,
-    first: u64,
-    second: u64,
-}
-
 // The call has the numbers of inserts and removes, and the items.
 fn apply_commit(
     nursery: &mut [u64; 3],
@@ -43,37 +36,11 @@ fn read_journal(
     waiting: &mut [u64; 160],
     cells: &mut [u8; 2048],
     call: &[u8],
-) -> Said {
+    out: &mut [u8],
+) -> usize {
     let mut read = [0u64; 2];
     let number = selvaigo_read_journal(call, nursery, entries, waiting, cells, &mut read);
-    Said {
-        number,
-        first: read[0],
-        second: read[1],
-    }
-}
-
-// Calls that change the entries.
-fn change(
-    kind: u8,
-    nursery: &mut [u64; 3],
-    entries: &mut [u64; 256],
-    waiting: &mut [u64; 160],
-    cells: &mut [u8; 2048],
-    call: &[u8],
-) -> Said {
-    if kind == 17 {
-        return read_journal(nursery, entries, waiting, cells, call);
-    }
-    Said {
-        number: apply_commit(nursery, entries, waiting, cells, call),
-        first: 0,
-        second: 0,
-    }
-}
-
-fn put_said(out: &mut [u8], said: Said) -> usize {
-    put(out, said.number, &[said.first, said.second])
+    put_two(out, number, &read)
 }
 
 fn drain(
@@ -177,7 +144,12 @@ pub(crate) fn answer(
     out: &mut [u8],
 ) -> usize {
     match kind {
-        16 | 17 => put_said(out, change(kind, nursery, entries, waiting, cells, call)),
+        16 => put(
+            out,
+            apply_commit(nursery, entries, waiting, cells, call),
+            &[0, 0],
+        ),
+        17 => read_journal(nursery, entries, waiting, cells, call, out),
         18 => drain(nursery, entries, waiting, cells, word(call, 0), out),
         _ => read(kind, nursery, entries, cells, call, out),
     }

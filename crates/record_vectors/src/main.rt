@@ -14,25 +14,27 @@
 mod bitmap_calls;
 mod calls;
 
-use byte_slices::equal;
 use call_lists::answers::NONE;
 use call_lists::answers::room;
 use call_lists::answers::text_room;
 use call_lists::files::read_file;
 use call_lists::lines::decode;
-use call_lists::lines::line_after;
-use call_lists::lines::line_end;
+use call_lists::lines::spelled;
+use call_lists::lines::spells;
+use call_lists::lines::step_at;
 use call_lists::tally::Tally;
 use call_lists::tally::counted;
 use call_lists::tally::report;
 
-// The answer to a call; its length.
-fn answer(call: &[u8], out: &mut [u8]) -> usize {
-    if call.len() < 1 {
+// The answer to a call, which a text spells; its length.
+fn answer(text: &[u8], out: &mut [u8]) -> usize {
+    let mut call = room();
+    let n = decode(text, &mut call);
+    if n < 1 {
         return NONE;
     }
     let kind = call[0];
-    let body = &call[1..];
+    let body = &call[1..n];
     match kind / 16 {
         2 => calls::answer(kind, body, out),
         3 => bitmap_calls::answer(kind, body, out),
@@ -40,27 +42,12 @@ fn answer(call: &[u8], out: &mut [u8]) -> usize {
     }
 }
 
-// Whether a call is answered as wanted.
-fn answered(call: &[u8], wanted: &[u8]) -> bool {
-    let mut room = room();
-    let m = wanted.len();
-    if 66000 < m {
-        return false;
-    }
-    let out = &mut room[0..m];
-    let n = answer(call, out);
-    n == m && equal(out, wanted)
-}
-
-// The same of call and answer in hex. What isn't hex is no bytes, and no answer has none.
+// Whether a call is answered as wanted. No answer has no bytes.
 fn agrees(call: &[u8], wanted: &[u8]) -> bool {
-    let mut a = room();
-    let mut b = room();
-    let k = decode(call, &mut a);
-    let m = decode(wanted, &mut b);
-    let call = &a[0..k];
-    let wanted = &b[0..m];
-    answered(call, wanted)
+    let mut room = room();
+    let n = spelled(wanted);
+    let out = &mut room[0..n];
+    answer(call, out) == n && spells(wanted, out)
 }
 
 // The steps of a list, one after the other.
@@ -68,16 +55,15 @@ fn replay(name: &[u8], s: &[u8]) {
     let mut t = Tally { steps: 0, good: 0 };
     let mut at = 0;
     while at < s.len() {
-        let end = line_end(s, at + 1);
-        let mut next = line_after(s, end);
-        if s[at] != b'#' {
-            let wanted = next;
-            let last = line_end(s, wanted);
+        let p = step_at(s, at);
+        let end = p.end;
+        let wanted = p.wanted;
+        let last = p.last;
+        if at < end {
             let good = agrees(&s[at..end], &s[wanted..last]);
             t = counted(t, good, name);
-            next = line_after(s, last);
         }
-        at = next;
+        at = p.next;
     }
     report(name, t);
 }

@@ -1,0 +1,5 @@
+-- `Answers`: what a call reads of its bytes, and how an answer is written. `Lines`: where a line ends. `Tallies`: a step more. `Laws`: laws of these.
+pub mod Answers
+pub mod Lines
+pub mod Tallies
+pub mod Laws
