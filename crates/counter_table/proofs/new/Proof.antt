@@ -1,3 +1,4 @@
+use mathlib.Core.Path.{_∙_}
 use borrow.Author.Needs.{needs}
 use Rattle.counters.specs.Calls.{laid, newCall}
 use Rattle.counters.specs.Counts.{fresh, freshMaintenance}
@@ -17,7 +18,7 @@ returns : tie.Need-returns
 unfolding newCall laid recordOf fresh freshMaintenance standard
 returns c =
     let a = c .before .before .before .before .before .args in
-    rw (c .before .before .fill .ensures, fresh-table 131072 (a .next-idx .0) (a .t .now))
+    rw (c .before .before .fill .ensures ∙ fresh-table 131072 (a .next-idx .0) (a .t .now))
 
 pub new-spec : {M : Type 1} → statement M
 new-spec = tie.close (tie.spec fill-requires same-length returns)
