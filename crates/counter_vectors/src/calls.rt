@@ -2,6 +2,7 @@
 use batch_abi::selvaigo_apply_batch;
 use call_lists::answers::NONE;
 use call_lists::answers::put;
+use call_lists::answers::put_byte;
 use call_lists::answers::put_one;
 use call_lists::answers::put_words;
 use call_lists::answers::word;
@@ -11,6 +12,7 @@ use counters_abi::selvaigo_new;
 use reading_abi::selvaigo_deserialize_trusted;
 use shrink_abi::selvaigo_shrink_if_needed;
 use snapshot_abi::selvaigo_serialize;
+use snapshot_abi::selvaigo_serialized_len;
 ghost use Prim.Native.Nat.{_≤_};
 ghost use lib.ListN.{length};
 ghost use mathlib.Core.Path.{_≡_};
@@ -23,13 +25,13 @@ pub(crate) fn counts_room() -> [u64; 8201]
 }
 
 fn alloc_idx(state: &mut [u64; 13], out: &mut [u8]) -> usize {
-    let mut idx = [0u64; 1];
+    let mut idx = [7u64; 1];
     let number = selvaigo_alloc_idx(state, &mut idx);
     put_one(out, number, &idx)
 }
 
 fn shrink(state: &mut [u64; 13], counts: &[u64], saved: u64) -> u8 {
-    let mut shrunk = [0u64; 9];
+    let mut shrunk = [7u64; 9];
     selvaigo_shrink_if_needed(state, counts, saved, &mut shrunk)
 }
 
@@ -82,7 +84,7 @@ fn change(kind: u8, state: &mut [u64; 13], counts: &mut [u64; 8201], call: &[u8]
 }
 
 fn get(state: &[u64], counts: &[u64], idx: u64, out: &mut [u8]) -> usize {
-    let mut count = [0u64; 1];
+    let mut count = [7u64; 1];
     let number = selvaigo_get(state, counts, idx, &mut count);
     put_one(out, number, &count)
 }
@@ -91,10 +93,16 @@ fn serialize(state: &[u64], counts: &[u64], out: &mut [u8]) -> usize {
     if out.len() < 9 {
         return NONE;
     }
-    let mut len = [0u64; 1];
+    let mut len = [7u64; 1];
     let number = selvaigo_serialize(state, counts, &mut out[9..], &mut len);
     put_one(out, number, &len);
     out.len()
+}
+
+fn serialized_len(state: &[u64], counts: &[u64], out: &mut [u8]) -> usize {
+    let mut len = [7u64; 1];
+    let number = selvaigo_serialized_len(state, counts, &mut len);
+    put_one(out, number, &len)
 }
 
 // How many words a table has if those at its end that are the same count as one.
@@ -125,6 +133,7 @@ fn read(kind: u8, state: &[u64], counts: &[u64], call: &[u8], out: &mut [u8]) ->
         8 => serialize(state, counts, out),
         9 => look(state, counts, out),
         10 => put(out, 0, state),
+        11 => serialized_len(state, counts, out),
         _ => NONE,
     }
 }
@@ -137,9 +146,9 @@ pub(crate) fn answer(
     out: &mut [u8],
 ) -> usize {
     match kind {
-        1..=4 => put(out, change(kind, state, counts, call), &[]),
+        1..=4 => put_byte(out, 0, change(kind, state, counts, call)),
         5 => alloc_idx(state, out),
-        6 => put(out, shrink(state, counts, word(call, 0)), &[]),
+        6 => put_byte(out, 0, shrink(state, counts, word(call, 0))),
         _ => read(kind, state, counts, call, out),
     }
 }

@@ -12,6 +12,7 @@
 // | 08 | snapshot | number, length, output |
 // | 09 | | 0, record and table, as 04 takes them |
 // | 0a | | 0, the counters' record |
+// | 0b | length of the snapshot | number, length |
 mod calls;
 
 use call_lists::answers::NONE;
@@ -75,4 +76,5 @@ fn main() {
     list(b"original");
     list(b"worked");
     list(b"snapshots");
+    list(b"edges");
 }

@@ -2,6 +2,7 @@
 use byte_slices::copy_at;
 use call_lists::answers::NONE;
 use call_lists::answers::put;
+use call_lists::answers::put_byte;
 use call_lists::answers::put_bytes;
 use call_lists::answers::put_one;
 use call_lists::answers::put_two;
@@ -11,6 +12,7 @@ use entries_abi::selvaigo_get_data;
 use entries_abi::selvaigo_get_idx;
 use listing_abi::selvaigo_snapshot_entries;
 use nursery_abi::selvaigo_apply_commit;
+use nursery_abi::selvaigo_nursery_new;
 use reading_abi::selvaigo_read_journal;
 
 // The call has the numbers of inserts and removes, and the items.
@@ -20,14 +22,25 @@ fn apply_commit(
     waiting: &mut [u64; 160],
     cells: &mut [u8; 2048],
     call: &[u8],
-) -> u8 {
+    out: &mut [u8],
+) -> usize {
     if call.len() < 16 {
-        return 255;
+        return NONE;
     }
     let inserts = word(call, 0);
     let removes = word(call, 8);
     let items = &call[16..];
-    selvaigo_apply_commit(nursery, entries, waiting, cells, 0, inserts, removes, items)
+    let number = selvaigo_apply_commit(
+        nursery,
+        entries,
+        waiting,
+        cells,
+        0,
+        inserts,
+        removes,
+        items,
+    );
+    put_two(out, number, &[0, 0])
 }
 
 fn read_journal(
@@ -38,7 +51,7 @@ fn read_journal(
     call: &[u8],
     out: &mut [u8],
 ) -> usize {
-    let mut read = [0u64; 2];
+    let mut read = [7u64; 2];
     let number = selvaigo_read_journal(call, nursery, entries, waiting, cells, &mut read);
     put_two(out, number, &read)
 }
@@ -54,7 +67,7 @@ fn drain(
     if out.len() < 9 {
         return NONE;
     }
-    let mut len = [0u64; 1];
+    let mut len = [7u64; 1];
     let born = (round % 4294967296) as u32;
     let body = &mut out[9..];
     let number = selvaigo_drain_promotable(nursery, entries, waiting, cells, born, body, &mut len);
@@ -73,7 +86,7 @@ fn key(call: &[u8]) -> [u8; 32] {
 
 fn get_idx(nursery: &[u64], entries: &[u64], call: &[u8], out: &mut [u8]) -> usize {
     let hash = key(call);
-    let mut found = [0u64; 2];
+    let mut found = [7u64; 2];
     let number = selvaigo_get_idx(nursery, entries, &hash, &mut found);
     put_two(out, number, &found)
 }
@@ -92,7 +105,7 @@ fn put_cell(out: &mut [u8], cells: &[u8], place: u64, len: u64) -> usize {
 
 fn get_data(nursery: &[u64], entries: &[u64], cells: &[u8], call: &[u8], out: &mut [u8]) -> usize {
     let hash = key(call);
-    let mut found = [0u64; 3];
+    let mut found = [7u64; 3];
     let number = selvaigo_get_data(nursery, entries, cells, &hash, &mut found);
     put(out, number, &[found[0]]);
     put_cell(out, cells, found[1], found[2])
@@ -102,7 +115,7 @@ fn listing(nursery: &[u64], entries: &[u64], cells: &[u8], out: &mut [u8]) -> us
     if out.len() < 9 {
         return NONE;
     }
-    let mut len = [0u64; 1];
+    let mut len = [7u64; 1];
     let number = selvaigo_snapshot_entries(nursery, entries, cells, &mut out[9..], &mut len);
     put_one(out, number, &len);
     out.len()
@@ -114,6 +127,32 @@ fn totals(nursery: &[u64], out: &mut [u8]) -> usize {
         return NONE;
     }
     put(out, 0, &[nursery[0], nursery[2]])
+}
+
+// The call has the place of a word, behind the table's number, and the word.
+fn set_word(t: &mut [u64], call: &[u8]) -> u8 {
+    let place = word(call, 8);
+    if t.len() as u64 <= place {
+        return 255;
+    }
+    t[place as usize] = word(call, 16);
+    0
+}
+
+// A word of a table takes another value: of the record (0), of the entries (1) or of the waiting rows (2).
+fn set(
+    table: u64,
+    nursery: &mut [u64; 3],
+    entries: &mut [u64; 256],
+    waiting: &mut [u64; 160],
+    call: &[u8],
+) -> u8 {
+    match table {
+        0 => set_word(nursery, call),
+        1 => set_word(entries, call),
+        2 => set_word(waiting, call),
+        _ => 255,
+    }
 }
 
 // Calls that change nothing.
@@ -144,13 +183,15 @@ pub(crate) fn answer(
     out: &mut [u8],
 ) -> usize {
     match kind {
-        16 => put(
-            out,
-            apply_commit(nursery, entries, waiting, cells, call),
-            &[0, 0],
-        ),
+        16 => apply_commit(nursery, entries, waiting, cells, call, out),
         17 => read_journal(nursery, entries, waiting, cells, call, out),
         18 => drain(nursery, entries, waiting, cells, word(call, 0), out),
+        23 => put_byte(
+            out,
+            0,
+            selvaigo_nursery_new(nursery, entries, waiting, cells),
+        ),
+        24 => put_byte(out, 0, set(word(call, 0), nursery, entries, waiting, call)),
         _ => read(kind, nursery, entries, cells, call, out),
     }
 }

@@ -9,6 +9,8 @@
 // | 14 | hash | number, whether found, the cell |
 // | 15 | listing | number, length, output |
 // | 16 | | 0, entries, cell bytes |
+// | 17 | new nursery | number |
+// | 18 | a word to write: 0 for the record, 1 for the entries, 2 for the waiting rows; its place; the word | 0 |
 mod calls;
 
 use call_lists::answers::NONE;
@@ -92,4 +94,5 @@ fn list(name: &[u8]) {
 
 fn main() {
     list(b"original");
+    list(b"edges");
 }

@@ -18,7 +18,7 @@ use shrink_abi::selvaigo_adjust_shrink_threshold;
 use shrink_abi::selvaigo_should_shrink;
 
 fn hash(bytes: &[u8], out: &mut [u8]) -> usize {
-    let mut key = [0u8; 32];
+    let mut key = [7u8; 32];
     selvaigo_hash(bytes, &mut key);
     put_hash(out, 0, &key)
 }
@@ -50,7 +50,7 @@ fn encode(call: &[u8], out: &mut [u8]) -> usize {
     if out.len() < 49 {
         return NONE;
     }
-    let mut figures = [0u64; 6];
+    let mut figures = [7u64; 6];
     let number = selvaigo_encode_record(
         word(call, 0),
         call[24],
@@ -65,8 +65,8 @@ fn encode(call: &[u8], out: &mut [u8]) -> usize {
 }
 
 fn decode(call: &[u8], out: &mut [u8]) -> usize {
-    let mut figures = [0u64; 8];
-    let mut key = [0u8; 32];
+    let mut figures = [7u64; 8];
+    let mut key = [7u8; 32];
     let number = selvaigo_decode_record(call, &mut figures, &mut key);
     let at = put_eight(out, number, &figures);
     put_hash(out, at, &key)
@@ -83,7 +83,7 @@ fn again(record: &[u8]) -> u8 {
     }
     let mut room = room();
     let out = &mut room[0..n];
-    let mut figures = [0u64; 6];
+    let mut figures = [7u64; 6];
     selvaigo_encode_record(
         word(record, 40),
         0,

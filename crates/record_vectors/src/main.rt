@@ -80,4 +80,5 @@ fn main() {
     list(b"long_record");
     list(b"hashes");
     list(b"bitmaps");
+    list(b"edges");
 }
