@@ -7,7 +7,7 @@
 An edit is made in a copy and run, unproved, by tools/edit.sh in the programs that use its crate, one after the other, until one writes something else
 than it should. What none tells from the right program is named at the end: such an edit makes no wrong program, or the lists of calls have no step that
 shows it (they call no held form, and lend no record of another length). Nothing is proved by this, and the gate doesn't need it: it is for the day when
-code moves. It takes five minutes on two cores.
+code moves. It takes five minutes on two cores. Exit status: 1 where an edit could not be run at all.
 """
 import os
 import subprocess
@@ -40,25 +40,37 @@ def edits(crate):
 
 
 def shown(crate, edit, programs):
-    """The first program that writes something else, and where; nothing where none does."""
+    """The first program that writes something else or ends otherwise, and where; nothing where none does."""
     for program in programs:
         command = [os.path.join(ROOT, "tools", "edit.sh"), crate, edit, program]
         said = subprocess.run(command, capture_output=True, text=True, check=False)
-        text = (said.stdout + said.stderr).strip()
-        if text != f"{program} writes what it should":
-            return f"{program}, {text.splitlines()[0] if text else 'which says nothing'}"
+        lines = (said.stdout + said.stderr).strip().splitlines() or ["it says nothing"]
+        if lines == [f"{program} writes what it should"]:
+            continue
+        told = [line for line in lines if line.startswith(("at byte ", "FAIL: "))]
+        if not told:
+            # not compiled, or not reached: that says nothing of the program that the edit makes
+            raise RuntimeError(f"{crate}/{edit}: {program} was not run: {lines[0]}")
+        return f"{program}, {told[0]}"
     return ""
 
 
 def main():
     needs = needed()
+    strange = [crate for crate in sys.argv[1:] if crate not in needs]
+    if strange:
+        sys.exit(f"not in crates.txt: {' '.join(strange)}")
     programs = [name for name in needs if os.path.isfile(os.path.join(CRATES, name, "src", "main.rt"))]
-    hidden = []
+    hidden, unrun = [], []
 
     def run(crate):
         mine = [program for program in programs if uses(needs, program, crate)]
         for edit in edits(crate):
-            where = shown(crate, edit, mine)
+            try:
+                where = shown(crate, edit, mine)
+            except RuntimeError as error:
+                unrun.append(str(error))
+                continue
             if where:
                 print(f"{crate}/{edit}: {where}", flush=True)
             else:
@@ -69,7 +81,10 @@ def main():
         list(pool.map(run, sys.argv[1:] or needs))
     for edit in sorted(hidden):
         print(f"{edit}: no program shows it")
+    for line in sorted(unrun):
+        print(line)
+    return 1 if unrun else 0
 
 
 if __name__ == "__main__":
-    main()
+    sys.exit(main())
