@@ -43,16 +43,25 @@ pub fn holds(c: Counters, t: &[u64]) -> bool
     all_sound(t, n, c.next_idx.0)
 }
 
-// The count stored at idx, and 0 where none is: a search.
+// How many rows a search by halves leaves to be looked at one by one.
+const SCAN: usize = 8;
+
+// The count stored at idx, and 0 where none is. The rows before the start are all below idx; from there on row after row is looked at, and the
+// first whose index isn't below idx ends the look-up.
 pub fn stored_at(t: &[u64], n: usize, idx: u64) -> u64
     requires { ⌜ InOrder n (now t) ⌝ }
     ensures { λ r. ⌜ r ≡ storedAt idx (rowsOf countRow n (now (t .entry))) ⌝ }
 {
-    let k = row_search::find(t, 2, n, idx);
-    if k < n {
-        if t[k * 2] == idx {
-            return t[k * 2 + 1];
+    let mut k = row_search::narrow(t, 2, n, idx, SCAN);
+    while k < n {
+        let here = t[k * 2];
+        if idx <= here {
+            if here == idx {
+                return t[k * 2 + 1];
+            }
+            return 0;
         }
+        k += 1;
     }
     0
 }

@@ -68,3 +68,21 @@ pub fn find_wide(t: &[u64], w: usize, n: usize, key: Wide) -> usize
     }
     lo
 }
+
+// A row that stands at the place that `find` gives or at most `few` rows before it: by halves, until so few are left. Which one is left open.
+pub fn narrow(t: &[u64], w: usize, n: usize, key: u64, few: usize) -> usize
+    requires { ⌜ (0 < w) × (n * w ≤ length (now t)) × (sortedFrom 0 (keys firstWord w n (now t)) ≡ true) ⌝ }
+    ensures { λ r. ⌜ (r ≤ place key (keys firstWord w n (now (t .entry)))) × (place key (keys firstWord w n (now (t .entry))) ≤ r + few) ⌝ }
+{
+    let mut lo = 0;
+    let mut hi = n;
+    while few < hi - lo {
+        let mid = lo + (hi - lo) / 2;
+        if t[mid * w] < key {
+            lo = mid + 1;
+        } else {
+            hi = mid;
+        }
+    }
+    lo
+}
