@@ -94,6 +94,23 @@ module _ {A : Type 0} where
   some-weaker h (here {x = x} p) = here (h x p)
   some-weaker h (there s) = there (some-weaker h s)
 
+  -- x is an item of the list
+  abbrev pub Among : A → List A → Type 0
+  Among x xs = Some (λ y. y ≡ x) xs
+
+  -- an item that has the property
+  pub some-one : {P : A → Type 0} {xs : List A} → Some P xs → (x : A) × P x × Among x xs
+  some-one (here {x = x} p) = (x, p, here refl)
+  some-one (there s) = let (x, p, m) = some-one s in (x, p, there m)
+
+  -- a test passes for no item exactly where it fails for each
+  pub none-passes : (p : A → Bool) (xs : List A) → (any p xs ≡ false) ↔ ((x : A) → Among x xs → p x ≡ false)
+  none-passes p xs =
+      let none : (any p xs ≡ false) ↔ (¬ Some (λ x. p x ≡ true) xs) = fails-not (any p xs) (any-some p (λ x. (λ e. e, λ e. e)) xs) in (
+        λ f x m. fails-not (p x) (λ e. e, λ e. e) .1 (λ e. none .0 f (some-weaker (λ y q. ap p q ∙ e) m)),
+        λ f. none .1 (λ s. let (x, e, m) = some-one s in true≢false (sym e ∙ f x m)),
+      )
+
   -- ---- tests and choices of lists end to end
   pub all-append : (p : A → Bool) (xs ys : List A) → all p xs ≡ true → all p ys ≡ true → all p (xs ++ ys) ≡ true
   unfolding all
@@ -363,3 +380,14 @@ module _ {A B : Type 0} (f : A → List B) where
   unfolding flat
   length-flat-even k h [] = omega arith
   length-flat-even k h (x ∷ xs) = length-append (f x) (flat f xs) ∙ omega (arith, h x, length-flat-even k h xs)
+
+-- ---- what a map gives
+module _ {A B : Type 0} (f : A → B) where
+  pub among-map : {x : A} {xs : List A} → Among x xs → Among (f x) (map f xs)
+  among-map (here e) = here (ap f e)
+  among-map (there m) = there (among-map m)
+
+  pub any-map : (p : B → Bool) (xs : List A) → any p (map f xs) ≡ any (λ x. p (f x)) xs
+  unfolding any
+  any-map p [] = refl
+  any-map p (x ∷ xs) = ap (λ (b : Bool). p (f x) || b) (any-map p xs)

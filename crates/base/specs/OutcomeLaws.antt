@@ -27,6 +27,11 @@ module _ {B : Type 0} where
   pub taken-same : (a b : B) → (_≡_ {A = Outcome B} (taken a) (taken b)) ↔ (b ≡ a)
   taken-same a b = (λ e. cc, λ e. ap taken (sym e))
 
+  -- a step that was passed: its test failed, and the later steps gave the value
+  pub passed : (b : Bool) (r : Refusal) (o : Outcome B) (a : B) → (refuseIf b r >> o) ≡ taken a → (b ≡ false) × (o ≡ taken a)
+  passed true r o a e = absurd (refused-taken e)
+  passed false r o a e = (refl, e)
+
   -- a step ends it exactly where its test passes, if no later step ends it so
   pub ends-here : {P : Type 0} {b : Bool} {r : Refusal} {o : Outcome B} → (b ≡ true) ↔ P → (o ≡ refused r → ⊥) → ((refuseIf b r >> o) ≡ refused r) ↔ P
   ends-here {P} {b} {r} {o} test none = go b test

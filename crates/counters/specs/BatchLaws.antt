@@ -1,15 +1,16 @@
 -- What a batch of kept transitions does to each count; that its order doesn't matter; how many counts are stored after it.
 -- Assumes nothing.
 use mathlib.Core.Path.{_≡_, refl, sym, ap, ap₂, _∙_}
+use mathlib.Core.Logic.{_↔_}
 use mathlib.Core.Bool.{Bool, true, false, not, _&&_}
-use mathlib.Core.List.{List, [], _∷_, map, Permᴰ·map}
+use mathlib.Core.List.{List, [], _∷_, Permᴰ·map}
 use mathlib.Core.List.{List·Permᴰ as Reordered}
-use Prim.Native.Nat.{ℕ, suc, _+_, max}
+use Prim.Native.Nat.{ℕ, suc, _+_, _≤_, _<_, max}
 use native.Mathlib.Omega.{arith}
 use native.Mathlib.Decide.{decLe}
 use lib.ListN.{length}
 use lib.Dec.{leb, ltb, eqb}
-use borrow.Author.Tests.{le-leb, lt-leb, leb-false, ltb-false, eqb-true, eqb-false, not-false}
+use borrow.Author.Tests.{le-leb, lt-leb, leb-false, le-ltb, ltb-false, eqb-true, eqb-false, eq-eqb, not-false}
 use Rattle.base.specs.Logic.{pick, any, keep, fold, elem, repeated}
 use Rattle.base.specs.ListLaws.{or-false, Some, some-weaker, fold-reads, fold-unset, fold-set, length-keep, any-order, keep-order, count-order, repeated-order, fold-order}
 use Rattle.counters.specs.declared.CounterTransition.{CounterTransition}
@@ -18,7 +19,7 @@ use Rattle.counters.specs.Counts.{Entry, State, storedAt, countAt, setCo
 use Rattle.counters.specs.Maintenance.{falls, rises, clears, grown, grownSets, maintained}
 use Rattle.counters.specs.Batch.{kept, named, unallocated, births, deaths, falseOld, offTotal, countsAfter, stateAfter, applyKept, applyBatch}
 use Rattle.counters.specs.Layout.{ordered}
-use Rattle.counters.specs.CountLaws.{storedOf, stored-other, storedAt-setCount, countAt-setCount, setCount-swap, ordered-setCount, length-rowOf, length-setCount}
+use Rattle.counters.specs.CountLaws.{storedOf, stored-two, stored-other, storedAt-setCount, countAt-setCount, setCount-swap, ordered-setCount, length-rowOf, length-setCount}
 
 -- ---- the count at each index
 module _ (i : ℕ) (ts : List CounterTransition) (es : List Entry) where
@@ -53,6 +54,31 @@ module _ (i : ℕ) (ts : List CounterTransition) (es : List Entry) where
     count-named =
         countAt-countsAfter
         ∙ fold-set (λ t. t .idx .0) (λ t. max (t .«new_raw») 1) i (max n 1) (countAt i es) (some-weaker (λ t p. (p .0, ap (λ (m : ℕ). max m 1) (p .1))) names) once
+
+-- ---- an old count is true exactly where what it stores is stored
+module _ (next : ℕ) (es : List Entry) (o : ordered next es ≡ true) (t : CounterTransition) where
+  pub old-stored : (falseOld es t ≡ false) ↔ (storedAt (t .idx .0) es ≡ storedOf (t .«old_raw»))
+  unfolding falseOld
+  old-stored = go (storedAt (t .idx .0) es) (stored-two next es o (t .idx .0)) (eqb (storedAt (t .idx .0) es) 0) refl
+    where
+      go : (n : ℕ) → (0 < n → 2 ≤ n) → (b : Bool) → eqb n 0 ≡ b
+          → (pick b (ltb 1 (t .«old_raw»)) (not (eqb (t .«old_raw») n)) ≡ false) ↔ (n ≡ storedOf (t .«old_raw»))
+      go n two true q =
+          let z = eqb-true n 0 q in (
+            λ e. rw (lt-leb 2 (t .«old_raw») (omega (arith, ltb-false 1 (t .«old_raw») e))) z,
+            λ e. elim (decLe 2 (t .«old_raw»)) [
+              | yes g ↦ absurd (omega (arith, z, rw (le-leb 2 (t .«old_raw») g) at e))
+              | no g ↦ le-ltb 1 (t .«old_raw») (omega arith)
+            ],
+          )
+      go n two false q =
+          let z = eqb-false n 0 q in (
+            λ e. let same = eqb-true (t .«old_raw») n (not-false (eqb (t .«old_raw») n) e) in rw (le-leb 2 (t .«old_raw») (omega (arith, same, two (omega (arith, z))))) (sym same),
+            λ e. elim (decLe 2 (t .«old_raw»)) [
+              | yes g ↦ ap not (eq-eqb (t .«old_raw») n (sym (rw (le-leb 2 (t .«old_raw») g) at e)))
+              | no g ↦ absurd (z (rw (lt-leb 2 (t .«old_raw») (omega arith)) at e))
+            ],
+          )
 
 -- ---- the stored counts stay ascending, at least 2, below the next index
 pub ordered-countsAfter : (next : ℕ) (ts : List CounterTransition) (es : List Entry) → ordered next es ≡ true → any (unallocated next) ts ≡ false
@@ -127,13 +153,12 @@ batch-order r room s = applyKept-order (kept-order r) room s
 
 -- ---- how many counts are stored after a batch
 -- the old count of a transition that isn't refused is stored exactly where a count is
-true-old : (es : List Entry) (t : CounterTransition) → falseOld es t ≡ false → leb 2 (storedAt (t .idx .0) es) ≡ leb 2 (t .«old_raw»)
-unfolding falseOld
-true-old es t e = go (storedAt (t .idx .0) es) (eqb (storedAt (t .idx .0) es) 0) refl e
+true-old : (next : ℕ) (es : List Entry) → ordered next es ≡ true → (t : CounterTransition) → falseOld es t ≡ false → leb 2 (storedAt (t .idx .0) es) ≡ leb 2 (t .«old_raw»)
+true-old next es o t e = ap (leb 2) (old-stored next es o t .0 e) ∙ go (leb 2 (t .«old_raw»)) refl
   where
-    go : (n : ℕ) (b : Bool) → eqb n 0 ≡ b → pick b (ltb 1 (t .«old_raw»)) (not (eqb (t .«old_raw») n)) ≡ false → leb 2 n ≡ leb 2 (t .«old_raw»)
-    go n true q f = lt-leb 2 n (omega (arith, eqb-true n 0 q)) ∙ sym (lt-leb 2 (t .«old_raw») (omega (arith, ltb-false 1 (t .«old_raw») f)))
-    go n false q f = ap (leb 2) (sym (eqb-true (t .«old_raw») n (not-false (eqb (t .«old_raw») n) f)))
+    go : (b : Bool) → leb 2 (t .«old_raw») ≡ b → leb 2 (pick b (t .«old_raw») 0) ≡ b
+    go true q = q
+    go false q = refl
 
 -- a count set at another index makes no old count true or false
 falseOld-other : (i n : ℕ) (ts : List CounterTransition) (es : List Entry) → elem i (named ts) ≡ false
@@ -174,5 +199,5 @@ length-countsAfter next (t ∷ ts) es o a b c =
     let fb = or-false (elem i (named ts)) (repeated (named ts)) b in
     let fc = or-false (falseOld es t) (any (falseOld es) ts) c in
     let rest = length-countsAfter next ts (setCount i new es) (ordered-setCount next es o i new (leb-false next i (fa .0))) (fa .1) (fb .1) (falseOld-other i new ts es (fb .0) ∙ fc .1) in
-    let was = length-rowOf i (storedAt i es) ∙ ap (λ (d : Bool). pick {A = ℕ} d 1 0) (true-old es t (fc .0)) in
+    let was = length-rowOf i (storedAt i es) ∙ ap (λ (d : Bool). pick {A = ℕ} d 1 0) (true-old next es o t (fc .0)) in
     omega (arith, rest, length-setCount next es o i new, was, length-rowOf i new, length-keep falls t ts, length-keep rises t ts, balance (t .«old_raw») new)

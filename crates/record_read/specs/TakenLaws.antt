@@ -14,7 +14,7 @@ use borrow.Author.Tests.{ltb-false}
 use Rattle.base.specs.Logic.{eqbList}
 use Rattle.base.specs.Bytes.{unle}
 use Rattle.base.specs.Answers.{Outcome, refused, taken, _>>=_, _>>_, refuseIf, orRefuse}
-use Rattle.base.specs.OutcomeLaws.{refused-taken, taken-same}
+use Rattle.base.specs.OutcomeLaws.{refused-taken, taken-same, passed}
 use Rattle.base.specs.declared.Refusal.{Refusal}
 use Rattle.base.specs.declared.Refusal.the-variants.{ShortRecord, FarLength, Mismatch, Misfit}
 use Rattle.base.specs.declared.Answer.the-variants.{Taken, Refused}
@@ -27,11 +27,7 @@ use Rattle.format.specs.Record.{Decoding, decode, statsOf}
 use Rattle.format.specs.Calls.{decodedOf, decodeCall}
 use Rattle.record_read.specs.DecodeLaws.{payload-short, payload-past, payload-items}
 
--- ---- steps that were passed
-passed : {A : Type 0} (b : Bool) (r : Refusal) (o : Outcome A) (x : A) → (refuseIf b r >> o) ≡ taken x → (b ≡ false) × (o ≡ taken x)
-passed true r o x e = absurd (refused-taken e)
-passed false r o x e = (refl, e)
-
+-- an option that was there
 got : {A B : Type 0} (r : Refusal) (o : Option A) (f : A → Outcome B) (x : B) → (orRefuse r o >>= f) ≡ taken x → (a : A) × ((o ≡ some a) × (f a ≡ taken x))
 got r none f x e = absurd (refused-taken e)
 got r (some a) f x e = (a, (refl, e))
