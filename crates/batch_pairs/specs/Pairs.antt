@@ -1,0 +1,55 @@
+-- Two batches in a row: what is claimed, without its proof.
+-- Assumes nothing.
+use mathlib.Core.Path.{_≡_}
+use mathlib.Core.Option.{some}
+use mathlib.Core.List.{List, map}
+use mathlib.Core.List.{List·Permᴰ as Reordered}
+use Prim.Native.Nat.{ℕ}
+use Rattle.base.specs.declared.Answer.the-variants.{Taken}
+use Rattle.counters.specs.declared.CounterTransition.{CounterTransition}
+use Rattle.counters.specs.Batch.{kept}
+use Rattle.counters.specs.Layout.{batchOf, withMaintenance}
+use Rattle.counter_walk.specs.Words.{wordsOf}
+use Rattle.node_box.specs.Box.{Box, batch, withCounters, step, snapshotOf}
+
+-- a transition with old and new exchanged
+abbrev pub exchanged : CounterTransition → CounterTransition
+exchanged t = record { idx = t .idx; «old_raw» = t .«new_raw»; «new_raw» = t .«old_raw» }
+
+-- us is an inverse of ts: its kept transitions are those of ts exchanged, in any order
+abbrev pub Inverse : List CounterTransition → List CounterTransition → Type 0
+Inverse ts us = Reordered (map exchanged (kept ts)) (kept us)
+
+-- the box after a batch
+abbrev pub batched : Box → List ℕ → Box
+batched b ws = step b (batch ws) .1
+
+-- the batch vs takes back the batch ws before it
+pub record RolledBack (b : Box) (ws vs : List ℕ) : Type 0 where
+  -- it is accepted
+  pub answer : step (batched b ws) (batch vs) .0 ≡ Taken
+  -- the snapshot is the one from before
+  pub snapshot : snapshotOf (batched (batched b ws) vs) ≡ snapshotOf b
+  -- so are all tables, word for word, and the records, but for the counters' maintenance
+  pub box : batched (batched b ws) vs ≡ withCounters b (withMaintenance (b .counters) (batched (batched b ws) vs .counters .maintenance)) (b .counts)
+  -- of which only the removal counters are left out
+  pub threshold : batched (batched b ws) vs .counters .maintenance .«min_alive_removed_before_shrink» ≡ b .counters .maintenance .«min_alive_removed_before_shrink»
+
+-- two batches, one after the other and the other way round, leave the same
+pub record SameEitherWay (b : Box) (ws vs : List ℕ) : Type 0 where
+  pub snapshot : snapshotOf (batched (batched b ws) vs) ≡ snapshotOf (batched (batched b vs) ws)
+  -- all tables and records, removal counters included
+  pub box : batched (batched b ws) vs ≡ batched (batched b vs) ws
+
+pub record Pairs : Type 0 where
+  -- after an accepted batch, an inverse of it takes it back
+  pub rolled-back : (b : Box) (ws vs : List ℕ) (ts us : List CounterTransition) → batchOf ws ≡ some ts → batchOf vs ≡ some us → Inverse ts us
+      → step b (batch ws) .0 ≡ Taken → RolledBack b ws vs
+  -- the same of batches that are lent as records
+  pub records-rolled-back : (b : Box) (ts us : List CounterTransition) → Inverse ts us
+      → step b (batch (wordsOf ts)) .0 ≡ Taken → RolledBack b (wordsOf ts) (wordsOf us)
+  -- two batches that are accepted in both orders, whatever indices they name, leave the same in either; words of records are such words
+  pub either-order : (b : Box) (ws vs : List ℕ)
+      → step b (batch ws) .0 ≡ Taken → step (batched b ws) (batch vs) .0 ≡ Taken
+      → step b (batch vs) .0 ≡ Taken → step (batched b vs) (batch ws) .0 ≡ Taken
+      → SameEitherWay b ws vs
