@@ -1,4 +1,4 @@
-//! The worked lines of document 01, and boxes that go on from them.
+//! The worked lines of document 01, boxes that go on from them, and batches taken back (document 02, P7).
 use selvaigo::{
     CellNursery, CounterTransition, Counters, HashBytes, Idx, NextIdx, NodeBox, NurseryDelta, NurseryEntryRecord, RefCount,
     Refusal, Room, adjust_shrink_threshold, decode_record, encode_record, hash, read_journal, should_shrink,
@@ -79,6 +79,40 @@ fn what_a_batch_drops_and_takes() {
     batch.update_raw(Idx::new(3), 0, 2);
     batch.apply().unwrap();
     assert_eq!(c.get(Idx::new(3)), Ok(RefCount::new(2)));
+}
+
+#[test]
+fn batches_taken_back() {
+    let mut c = Counters::new(NextIdx::new(4), 2);
+    let before = c.clone();
+    c.apply_batch(&[change(1, 0, 3), change(0, 0, 1), change(9, 7, 7)]).unwrap();
+    assert_eq!((c.live_cells(), c.stored()), (2, 1));
+    c.apply_batch(&[change(0, 1, 0), change(2, 5, 5), change(1, 3, 0)]).unwrap();
+    assert_eq!((c.serialize(), c.counts()), (before.serialize(), before.counts()));
+    c.apply_batch(&[change(2, 0, 1)]).unwrap();
+    c.apply_batch(&[change(2, 1, 0)]).unwrap();
+    assert_eq!(c.apply_batch(&[change(2, 1, 0)]), Err(Refusal::OffTotal));
+    assert_eq!((c.serialize(), c.counts()), (before.serialize(), before.counts()));
+
+    c.apply_batch(&[change(3, 0, 256)]).unwrap();
+    let (snapshot, removed) = (c.serialize(), c.maintenance().small_removed_since_shrink);
+    c.apply_batch(&[change(3, 256, 257)]).unwrap();
+    c.apply_batch(&[change(3, 257, 256)]).unwrap();
+    assert_eq!(c.serialize(), snapshot);
+    assert_eq!(c.maintenance().small_removed_since_shrink, removed.map(|n| n + 1));
+}
+
+#[test]
+fn a_batch_taken_back_in_a_full_table() {
+    let mut c = Counters::new(NextIdx::new(4), 1);
+    c.apply_batch(&[change(0, 0, 3)]).unwrap();
+    let snapshot = c.serialize();
+    assert_eq!(c.apply_batch(&[change(1, 0, 4)]), Err(Refusal::TableFull));
+    c.apply_batch(&[change(0, 3, 1), change(1, 0, 4)]).unwrap();
+    assert_eq!(c.counts(), [1, 4]);
+    c.apply_batch(&[change(0, 1, 3), change(1, 4, 0)]).unwrap();
+    assert_eq!(c.counts(), [0, 3]);
+    assert_eq!(c.serialize(), snapshot);
 }
 
 #[test]
