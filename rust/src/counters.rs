@@ -215,8 +215,8 @@ impl Counters {
         CounterBatch { counters: self, transitions: Vec::new() }
     }
 
-    /// A batch: all of it or nothing. Its transitions with old and new exchanged, in any order, take it back if no other call on the counters
-    /// came between: they are accepted, and the snapshot is the one from before.
+    /// A batch: all of it or nothing. Right after it was accepted, its transitions with old and new exchanged, in any order, take it back:
+    /// they are accepted, and the snapshot is the one from before.
     pub fn apply_batch(&mut self, batch: &[CounterTransition]) -> Result<(), Refusal> {
         // SAFETY: held, see above. A transition is three words with nothing between them, and there are as many as fit in memory.
         Refusal::of(unsafe {

@@ -83,16 +83,16 @@ fn batches_in_either_order() {
     let (mut both, mut one, mut common) = (0, 0, 0);
     for _ in 0..12_000 {
         let (a, b) = (n.batch(&c), n.batch(&c));
-        let there = after(&c, &a).and_then(|c| after(&c, &b));
-        let here = after(&c, &b).and_then(|c| after(&c, &a));
-        if let (Some(x), Some(y)) = (&there, &here) {
+        let ab = after(&c, &a).and_then(|c| after(&c, &b));
+        let ba = after(&c, &b).and_then(|c| after(&c, &a));
+        if let (Some(x), Some(y)) = (&ab, &ba) {
             assert_eq!((x.state(), x.counts()), (y.state(), y.counts()));
             assert_eq!(x.serialize(), y.serialize());
             both += 1;
             common += usize::from(kept(&a).any(|t| kept(&b).any(|u| t.idx == u.idx)));
         }
-        one += usize::from(there.is_some() != here.is_some());
-        c = there.or(here).unwrap_or(c);
+        one += usize::from(ab.is_some() != ba.is_some());
+        c = ab.or(ba).unwrap_or(c);
     }
     assert!(both > 1_000 && one > 100 && common > 10, "{both} {one} {common}");
 }

@@ -53,11 +53,6 @@ module _ (room : ℕ) (s : State) (ks : List CounterTransition) where
       let f = passed over TableFull (taken (stateAfter ks s)) s′ (d .1) in
       (record { allocated = a .0; once = b .0; old = c .0; total = d .0; fits = f .0 }, taken-same (stateAfter ks s) s′ .0 (f .1))
 
--- births leave a u64, and no more die than are then alive
-pub total-holds : (live : ℕ) (ks : List CounterTransition) → offTotal live ks ≡ false → (live + births ks ≤ max64) × (deaths ks ≤ live + births ks)
-unfolding births deaths
-total-holds live ks e = total-within live ks e
-
 -- a transition among those that name no index twice stores its new count
 pub stored-among : {t : CounterTransition} {ks : List CounterTransition} → Among t ks → repeated (named ks) ≡ false → (es : List Entry)
     → storedAt (t .idx .0) (countsAfter ks es) ≡ storedOf (t .«new_raw»)
@@ -116,12 +111,13 @@ module _ (room : ℕ) (s : State) (ks : List CounterTransition) (o : ordered (s 
   counts-back = same-stored (s .next) (countsAfter xs es′) es (ordered-countsAfter (s .next) xs es′ in-order below) o stored-back
 
   live-back : s .live + births ks - deaths ks + births xs - deaths xs ≡ s .live
-  live-back = omega (arith, exchanged-births ks, exchanged-deaths ks, total-holds (s .live) ks (p .total))
+  unfolding births deaths
+  live-back = omega (arith, exchanged-births ks, exchanged-deaths ks, total-within (s .live) ks (p .total))
 
   total-back : offTotal (s .live + births ks - deaths ks) xs ≡ false
-  unfolding offTotal
+  unfolding offTotal births deaths
   total-back =
-      let t = total-holds (s .live) ks (p .total) in
+      let t = total-within (s .live) ks (p .total) in
       rw (exchanged-births ks, exchanged-deaths ks, le-ltb max64 (s .live + births ks - deaths ks + deaths ks) (omega arith))
       (le-ltb (s .live + births ks - deaths ks + deaths ks) (births ks) (omega arith))
 

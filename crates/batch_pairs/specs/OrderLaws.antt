@@ -16,7 +16,8 @@ use Rattle.counters.specs.Batch.{named, births, deaths, falseOld, countsAfter, 
 use Rattle.counters.specs.Layout.{ordered}
 use Rattle.counters.specs.CountLaws.{same-stored}
 use Rattle.counters.specs.BatchLaws.{stored-unnamed, old-stored, ordered-countsAfter}
-use Rattle.batch_pairs.specs.InverseLaws.{Passes, total-holds, stored-among}
+use Rattle.counters.specs.JudgeLaws.{total-within}
+use Rattle.batch_pairs.specs.InverseLaws.{Passes, stored-among}
 
 -- ---- the removal counters
 grown-either : (r a b : ℕ) → grown (grown r a) b ≡ grown (grown r b) a
@@ -90,14 +91,14 @@ module _ (room : ℕ) (s : State) (ks ls : List CounterTransition) (o : ordered 
       (ordered-countsAfter (s .next) ls after-ks ks-order (r .allocated)) (ordered-countsAfter (s .next) ks after-ls ls-order (p .allocated)) stored-either
 
   live-either : s .live + births ks - deaths ks + births ls - deaths ls ≡ s .live + births ls - deaths ls + births ks - deaths ks
-  unfolding stateAfter
+  unfolding stateAfter births deaths
   live-either =
       omega (
         arith,
-        total-holds (s .live) ks (p .total),
-        total-holds (s .live + births ks - deaths ks) ls (q .total),
-        total-holds (s .live) ls (r .total),
-        total-holds (s .live + births ls - deaths ls) ks (u .total),
+        total-within (s .live) ks (p .total),
+        total-within (s .live + births ks - deaths ks) ls (q .total),
+        total-within (s .live) ls (r .total),
+        total-within (s .live + births ls - deaths ls) ks (u .total),
       )
 
   pub states-either : stateAfter ls (stateAfter ks s) ≡ stateAfter ks (stateAfter ls s)

@@ -60,14 +60,12 @@ record Applies (c : Counters) (t ws : List ℕ) (ts : List CounterTransition) : 
   leaves : batchCall c t ws ≡ laid (length t) (stateAfter (kept ts) (stateOf c t))
   after : stateOf (batchCall c t ws .result .counters) (batchCall c t ws .table) ≡ stateAfter (kept ts) (stateOf c t)
 
-some-same : {ts us : List CounterTransition} → some ts ≡ some us → ts ≡ us
-some-same e = cc
-
 applies : (c : Counters) (t ws : List ℕ) (ts : List CounterTransition) → batchOf ws ≡ some ts → batchCall c t ws .result .answer ≡ Taken → Applies c t ws ts
 unfolding applyBatch laidOut
 applies c t ws ts w e =
     let (s′, a, m) = batch-accepted c t ws e in
-    let ok : applyKept (roomOf t) (stateOf c t) (kept ts) ≡ taken s′ = rw (some-same (sym (a .words) ∙ w)) at (a .applied) in
+    let same : a .transitions ≡ ts = cc (a .words, w) in
+    let ok : applyKept (roomOf t) (stateOf c t) (kept ts) ≡ taken s′ = rw same at (a .applied) in
     let (p, left) = taken-passes (roomOf t) (stateOf c t) (kept ts) s′ ok in
     record { holding = a .holding; passes = p; leaves = batch-held c t ws ts (a .holding) w ∙ rw (ok, left); after = m ∙ left }
 

@@ -30,7 +30,7 @@ pub record RolledBack (b : Box) (ws vs : List ℕ) : Type 0 where
   pub answer : step (batched b ws) (batch vs) .0 ≡ Taken
   -- the snapshot is the one from before
   pub snapshot : snapshotOf (batched (batched b ws) vs) ≡ snapshotOf b
-  -- so are all tables, word for word, and the records, but for the counters' maintenance
+  -- so are all tables, word for word, and both state records, but for the counters' maintenance
   pub box : batched (batched b ws) vs ≡ withCounters b (withMaintenance (b .counters) (batched (batched b ws) vs .counters .maintenance)) (b .counts)
   -- of which only the removal counters are left out
   pub threshold : batched (batched b ws) vs .counters .maintenance .«min_alive_removed_before_shrink» ≡ b .counters .maintenance .«min_alive_removed_before_shrink»
@@ -38,7 +38,7 @@ pub record RolledBack (b : Box) (ws vs : List ℕ) : Type 0 where
 -- two batches, one after the other and the other way round, leave the same
 pub record SameEitherWay (b : Box) (ws vs : List ℕ) : Type 0 where
   pub snapshot : snapshotOf (batched (batched b ws) vs) ≡ snapshotOf (batched (batched b vs) ws)
-  -- all tables and records, removal counters included
+  -- all tables and both state records, removal counters included
   pub box : batched (batched b ws) vs ≡ batched (batched b vs) ws
 
 pub record Pairs : Type 0 where

@@ -54,9 +54,9 @@ moves = 0 ∷ 3 ∷ 1 ∷ 1 ∷ 0 ∷ 4 ∷ []
 abbrev moves-back : List ℕ
 moves-back = 0 ∷ 1 ∷ 3 ∷ 1 ∷ 4 ∷ 0 ∷ []
 
--- a birth and a death, and a birth elsewhere
+-- a birth with count 3 and a death, and a birth elsewhere
 abbrev in-and-out : List ℕ
-in-and-out = 0 ∷ 0 ∷ 1 ∷ 1 ∷ 1 ∷ 0 ∷ []
+in-and-out = 0 ∷ 0 ∷ 3 ∷ 1 ∷ 1 ∷ 0 ∷ []
 
 abbrev birth : List ℕ
 birth = 2 ∷ 0 ∷ 1 ∷ []
@@ -104,9 +104,11 @@ pub record Lines : Type 0 where
   store-first : answer tight (1 ∷ 0 ∷ 4 ∷ []) ≡ 6
   up-twice : answer (batched (four 2) (0 ∷ 0 ∷ 3 ∷ [])) (0 ∷ 3 ∷ 4 ∷ []) ≡ 0
   later-first : answer (four 2) (0 ∷ 3 ∷ 4 ∷ []) ≡ 5
-  -- three answers of the four don't do: below the largest total the last is 4
-  third : (answer (alive (max64 - 1)) in-and-out ≡ 0) × (answer (batched (alive (max64 - 1)) in-and-out) birth ≡ 0) × (answer (alive (max64 - 1)) birth ≡ 0)
-  fourth : answer (batched (alive (max64 - 1)) birth) in-and-out ≡ 4
+  -- three answers of the four don't do: one below the largest total the last is 4, and the boxes differ
+  three-taken : (answer (alive (max64 - 1)) in-and-out ≡ 0) × (answer (batched (alive (max64 - 1)) in-and-out) birth ≡ 0) × (answer (alive (max64 - 1)) birth ≡ 0)
+  fourth-refused : answer (batched (alive (max64 - 1)) birth) in-and-out ≡ 4
+  three-counts : both (alive (max64 - 1)) in-and-out birth .counts ≡ 0 ∷ 3 ∷ 0 ∷ 0 ∷ []
+  fourth-counts : both (alive (max64 - 1)) birth in-and-out .counts ≡ zeros 4
 
 pub lines : Lines
 unfolding evaluation
@@ -143,8 +145,10 @@ lines =
       store-first = refl;
       up-twice = refl;
       later-first = refl;
-      third = (refl, refl, refl);
-      fourth = refl;
+      three-taken = (refl, refl, refl);
+      fourth-refused = refl;
+      three-counts = refl;
+      fourth-counts = refl;
     }
 
 -- the first line by the law: its words spell a batch and an inverse of it
