@@ -7,7 +7,7 @@ use mathlib.Core.List.{List, [], _∷_, _++_, map, Permᴰ·map, Permᴰ·refl}
 use mathlib.Core.List.{List·Permᴰ as Reordered, List·Permᴰ·nil as order-nil, List·Permᴰ·cons as order-cons, List·Permᴰ·swap as order-swap, List·Permᴰ·trans as order-trans}
 use Prim.Native.Nat.{ℕ, suc, _+_, _*_, _≤_, _<_}
 use native.Mathlib.Omega.{arith}
-use lib.ListN.{length, length-append}
+use lib.ListN.{length, take, drop, length-append, take-append-drop}
 use lib.Dec.{eqb, leb, ltb}
 use borrow.Author.Tests.{eqb-true, eqb-false, eq-eqb, ne-eqb, leb-true, le-leb, ltb-true, lt-ltb}
 use Rattle.base.specs.Logic.{pick, all, any, keep, fold, flat, elem, repeated, sumOf, ascendingFrom}
@@ -363,6 +363,13 @@ module _ {A : Type 0} (p : A → Bool) where
   pub all-right : (xs ys : List A) → all p (xs ++ ys) ≡ true → all p ys ≡ true
   all-right [] ys e = e
   all-right (x ∷ xs) ys e = all-right xs ys (all-tail x (xs ++ ys) e)
+
+  -- so do the first items, and those behind them
+  pub all-take : (n : ℕ) (xs : List A) → all p xs ≡ true → all p (take n xs) ≡ true
+  all-take n xs e = all-left (take n xs) (drop n xs) (rw (take-append-drop n xs) e)
+
+  pub all-drop : (n : ℕ) (xs : List A) → all p xs ≡ true → all p (drop n xs) ≡ true
+  all-drop n xs e = all-right (take n xs) (drop n xs) (rw (take-append-drop n xs) e)
 
   pub all-flat : {B : Type 0} (f : B → List A) → ((x : B) → all p (f x) ≡ true) → (xs : List B) → all p (flat f xs) ≡ true
   unfolding all flat

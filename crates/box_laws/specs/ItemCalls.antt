@@ -2,8 +2,8 @@
 -- Assumes nothing.
 use mathlib.Core.Path.{_≡_, refl}
 use mathlib.Core.Bool.{Bool, true, false}
-use mathlib.Core.Option.{Option, none, some}
-use mathlib.Core.List.{List, [], _∷_}
+use mathlib.Core.Option.{Option}
+use mathlib.Core.List.{List}
 use Prim.Native.Nat.{ℕ, zero, suc, _*_, _/_, _%_, _^_, _≤_, _<_}
 use native.Mathlib.Omega.{arith}
 use lib.ListN.{length, take, drop, length-drop}
@@ -11,12 +11,13 @@ use lib.Seq.{length-take-le}
 use lib.Dec.{leb, ltb, eqb}
 use borrow.Author.Tests.{lt-ltb, eqb-true}
 use Rattle.base.specs.Logic.{pick, all}
-use Rattle.base.specs.Laws.{and-left, and-right, and-both}
+use Rattle.base.specs.Laws.{and-both}
+use Rattle.base.specs.ListLaws.{all-take, all-drop}
 use Rattle.base.specs.Bytes.{unle}
 use Rattle.base.specs.NumberLaws.{number-below}
-use Rattle.cell_nursery.specs.Items.{Delta, deltaOf}
+use Rattle.cell_nursery.specs.Items.{deltaOf}
 use Rattle.format.specs.Payload.{payloadOf}
-use Rattle.journal_laws.specs.DeltaLaws.{Bytes, Gives, nothing, gives, gives-bind, gives-ensure, cut-bytes, le-bytes, delta-read}
+use Rattle.journal_laws.specs.DeltaLaws.{Bytes, Gives, nothing, gives, gives-bind, gives-ensure, gives-each, cut-bytes, le-bytes, delta-read}
 use Rattle.node_box.specs.Box.{Call, allocate, batch, delta, drain}
 use Rattle.node_box.specs.Demand.{typed}
 use Rattle.box_items.specs.Items.{headerIn, wordsIn, allocateItem, batchItem, deltaItem, drainItem, drainRoom, callOf, itemCall}
@@ -31,20 +32,6 @@ pub data ItemCall : Call → Type 0 where
 abbrev pub Fit : Call → Type 0
 Fit x = (typed x ≡ true) × ItemCall x
 
--- the rest of bytes is bytes
-pub drop-bytes : (n : ℕ) (bs : List ℕ) → Bytes bs → Bytes (drop n bs)
-unfolding all
-drop-bytes zero bs b = b
-drop-bytes (suc n) [] b = refl
-drop-bytes (suc n) (x ∷ xs) b = drop-bytes n xs (and-right (ltb x 256) (all (λ y. ltb y 256) xs) b)
-
-pub take-bytes : (n : ℕ) (bs : List ℕ) → Bytes bs → Bytes (take n bs)
-unfolding all
-take-bytes zero bs b = refl
-take-bytes (suc n) [] b = refl
-take-bytes (suc n) (x ∷ xs) b =
-    and-both _ _ (and-left (ltb x 256) (all (λ y. ltb y 256) xs) b) (take-bytes n xs (and-right (ltb x 256) (all (λ y. ltb y 256) xs) b))
-
 -- eight bytes spell a u64
 words-fit : (n : ℕ) (bs : List ℕ) → 8 * n ≤ length bs → Bytes bs → all (λ w. ltb w (2 ^ 64)) (wordsIn n bs) ≡ true
 unfolding wordsIn all
@@ -52,8 +39,8 @@ words-fit zero bs l b = refl
 words-fit (suc n) bs l b =
     let eight : length (take 8 bs) ≡ 8 = length-take-le 8 bs (omega arith) in
     let rest = length-drop 8 bs in
-    and-both _ _ (lt-ltb (unle (take 8 bs)) (2 ^ 64) (rw eight at (number-below 256 (take 8 bs) (take-bytes 8 bs b))))
-    (words-fit n (drop 8 bs) (omega arith) (drop-bytes 8 bs b))
+    and-both _ _ (lt-ltb (unle (take 8 bs)) (2 ^ 64) (rw eight at (number-below 256 (take 8 bs) (all-take (λ x. ltb x 256) 8 bs b))))
+    (words-fit n (drop 8 bs) (omega arith) (all-drop (λ x. ltb x 256) 8 bs b))
 
 -- a payload's id is a u64, and its lists are as long as it says
 payload-fits : (body : List ℕ) → Bytes body → Gives (λ p. (p .id < 2 ^ 64) × (length (p .delta .inserts) < 2 ^ 32) × (length (p .delta .removes) < 2 ^ 32)) (payloadOf body)
@@ -66,11 +53,7 @@ payload-fits body b =
     gives (p .0, rw (s .0) (q .0), rw (s .1) (r .0))))))
   where
     spelled : (m n : ℕ) (bs : List ℕ) → Bytes bs → Gives (λ d. (length (d .inserts) ≡ m) × (length (d .removes) ≡ n)) (deltaOf 2 m n bs)
-    spelled m n bs c = go (deltaOf 2 m n bs) refl
-      where
-        go : (o : Option Delta) → deltaOf 2 m n bs ≡ o → Gives (λ d. (length (d .inserts) ≡ m) × (length (d .removes) ≡ n)) o
-        go none e = nothing
-        go (some d) e = let x = delta-read 2 m n bs d c e in gives (x .number-inserts, x .number-removes)
+    spelled m n bs c = gives-each (deltaOf 2 m n bs) (λ d e. let x = delta-read 2 m n bs d c e in (x .number-inserts, x .number-removes))
 
 module _ (body : List ℕ) (b : Bytes body) where
   allocate-fits : Gives Fit (allocateItem body)
@@ -85,7 +68,7 @@ module _ (body : List ℕ) (b : Bytes body) where
   unfolding deltaItem typed
   delta-fits =
       gives-bind (payload-fits body b) (λ p q.
-      gives {a = delta (p .id) false (length (p .delta .inserts)) (length (p .delta .removes)) (drop 16 body)} (rw (lt-ltb (p .id) (2 ^ 64) (q .0), lt-ltb (length (p .delta .inserts)) (2 ^ 64) (omega (arith, q .1)), lt-ltb (length (p .delta .removes)) (2 ^ 64) (omega (arith, q .2))) (drop-bytes 16 body b), changes _ _ _ _ _))
+      gives {a = delta (p .id) false (length (p .delta .inserts)) (length (p .delta .removes)) (drop 16 body)} (rw (lt-ltb (p .id) (2 ^ 64) (q .0), lt-ltb (length (p .delta .inserts)) (2 ^ 64) (omega (arith, q .1)), lt-ltb (length (p .delta .removes)) (2 ^ 64) (omega (arith, q .2))) (all-drop (λ x. ltb x 256) 16 body b), changes _ _ _ _ _))
 
   drain-fits : Gives Fit (drainItem body)
   unfolding drainItem typed drainRoom
@@ -106,4 +89,4 @@ module _ (body : List ℕ) (b : Bytes body) where
 
 pub item-fits : (bs : List ℕ) → Bytes bs → Gives Fit (itemCall bs)
 unfolding itemCall
-item-fits bs b = gives-bind (cut-bytes (headerIn bs .len) (drop 6 bs) (drop-bytes 6 bs b)) (λ y p. call-fits (y .0) (p .1) (headerIn bs .kind))
+item-fits bs b = gives-bind (cut-bytes (headerIn bs .len) (drop 6 bs) (all-drop (λ x. ltb x 256) 6 bs b)) (λ y p. call-fits (y .0) (p .1) (headerIn bs .kind))

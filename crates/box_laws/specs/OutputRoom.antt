@@ -7,10 +7,11 @@ use mathlib.Core.List.{List, [], _∷_}
 use Prim.Native.Nat.{ℕ, zero, suc, _+_, _*_}
 use native.Mathlib.Omega.{arith}
 use lib.ListN.{length, drop, length-replicate}
-use lib.Dec.{leb, eqb}
+use lib.Dec.{leb, ltb, eqb}
 use borrow.Author.Tests.{eqb-true}
 use Rattle.base.specs.Logic.{pick, all, any, elem, zeros}
 use Rattle.base.specs.Laws.{and-both}
+use Rattle.base.specs.ListLaws.{all-drop}
 use Rattle.base.specs.Answers.{answerNumber, numberOf}
 use Rattle.base.specs.declared.Answer.{Answer}
 use Rattle.base.specs.declared.Answer.the-variants.{Taken, Refused}
@@ -23,7 +24,7 @@ use Rattle.demand3.specs.Refusals.{numbersOf, refusals}
 use Rattle.demand3.specs.DrainRoom.{drain-fits}
 use Rattle.box_items.specs.declared.Line.{Line}
 use Rattle.box_items.specs.Items.{headerIn, drainRoom, itemCall, ran, lineOf, runBox, linesFrom, lines}
-use Rattle.box_laws.specs.ItemCalls.{ItemCall, allocates, batches, changes, drains, Fit, drop-bytes, item-fits}
+use Rattle.box_laws.specs.ItemCalls.{ItemCall, allocates, batches, changes, drains, Fit, item-fits}
 
 -- a run's tables
 abbrev runSizes : Sizes
@@ -81,7 +82,7 @@ lines-room (suc fuel) b place (x ∷ xs) c h =
     go after bs c true none g = refl
     go after bs c true (some y) (gives p) =
         let n = 6 + headerIn bs .len in
-        and-both _ _ (item-call h y (p .1)) (after y (drop n bs) (drop-bytes n bs c) (holding-step y (p .0) h))
+        and-both _ _ (item-call h y (p .1)) (after y (drop n bs) (all-drop (λ x. ltb x 256) n bs c) (holding-step y (p .0) h))
 
 -- a box as it is made
 made-holds : (k e w c : ℕ) → Holding (record { counts = k; entries = e; waiting = w; cells = c }) (made 0 (zeros k) (zeros e) (zeros w) (zeros c))

@@ -1,7 +1,7 @@
 -- What an insert and a remove leave: the entry of each hash, the numbers of rows and bytes, and the order.
 -- Assumes nothing.
 use mathlib.Core.Path.{_≡_, refl, ap, _∙_}
-use mathlib.Core.Bool.{Bool, true, false, not}
+use mathlib.Core.Bool.{Bool, true, false, not, _||_}
 use mathlib.Core.Option.{Option, none, some}
 use mathlib.Core.List.{List, [], _∷_, _++_, map}
 use Prim.Native.Nat.{ℕ, zero, suc, _+_, _^_, _≤_, _<_}
@@ -19,7 +19,7 @@ use Rattle.cell_nursery.specs.Entries.{Entry, Waiting, State, empty, cel
 use Rattle.cell_nursery.specs.Items.{Delta}
 use Rattle.cell_nursery.specs.Delta.{Room, used, full, stateAfter}
 use Rattle.cell_nursery.specs.Drain.{due, drained, lookup}
-use Rattle.base.specs.ListLaws.{all-keep, ascending-keep}
+use Rattle.base.specs.ListLaws.{eqb-sym, all-keep, ascending-keep}
 use Rattle.base.specs.SumLaws.{or-left, or-right, all-one, sum-keep, length-keep, keep-sorted}
 use Rattle.cell_nursery.specs.ItemLaws.{fitsItem, item-fits}
 use Rattle.cell_nursery.specs.LayoutLaws.{fitsWaiting, WellFormed}
@@ -39,6 +39,16 @@ lookup-entryAt h [] = refl
 lookup-entryAt h (e ∷ es) =
     let rest = lookup-entryAt h es in
     elim (eqb (e .hash) h) as (λ b. pick b (some (e .idx)) (lookup h es) ≡ maybe none (λ x. some (x .idx)) (pick b (some e) (entryAt h es))) [ true ↦ refl | false ↦ rest ]
+
+-- a hash is among the entries' exactly where it has one
+pub elem-entryAt : (h : ℕ) (es : List Entry) → elem h (map (λ e. e .hash) es) ≡ maybe false (λ e. true) (entryAt h es)
+unfolding entryAt any
+elem-entryAt h [] = refl
+elem-entryAt h (e ∷ es) = rw (eqb-sym h (e .hash), elem-entryAt h es) (go (eqb (e .hash) h))
+  where
+    go : (b : Bool) → (b || maybe false (λ x. true) (entryAt h es)) ≡ maybe false (λ x. true) (pick b (some e) (entryAt h es))
+    go true = refl
+    go false = refl
 
 module _ (h : ℕ) where
   at-append : (xs ys : List Entry) → entryAt h (xs ++ ys) ≡ maybe (entryAt h ys) some (entryAt h xs)
@@ -259,6 +269,11 @@ used-remove h s = omega (arith, number-remove h s, waiting-remove h s)
 pub record InRoom (rows bytes : ℕ) (s : State) : Type 0 where
   pub rows-fit : used s ≤ rows
   pub bytes-fit : cellBytes (s .entries) ≤ bytes
+
+-- an empty nursery fits any tables
+pub room-empty : (rows bytes : ℕ) → InRoom rows bytes empty
+unfolding empty used cellBytes sumOf
+room-empty rows bytes = record { rows-fit = omega arith; bytes-fit = omega arith }
 
 inserts-fit : (rows bytes : ℕ) (es : List Entry) (s : State) → used s + length es ≤ rows → cellBytes (s .entries) + cellBytes es ≤ bytes → InRoom rows bytes (fold insert es s)
 unfolding fold cellBytes sumOf

@@ -145,7 +145,7 @@ step-in-step {z} {b} {p} x t s = go (accepted (step b x .0)) refl
           holds = holds-taken (s .holds) x t e;
           agrees = agrees-taken x p (s .counters) (s .nursery) (s .agrees);
         }
-    go false e = rw (refused-same (s .holds) x e) s
+    go false e = rw (refused-same _ (s .holds .nursery) x e) s
 
 run-in-step : {z : Sizes} {b : Box} {p : Plain} (xs : List Call) → all typed xs ≡ true → InStep z b p → InStep z (run b xs) (runPlain p xs (answers b xs))
 unfolding run runPlain answers all

@@ -64,23 +64,34 @@ delta-typed id wide inserts removes items t =
     record { small-id = ltb-true id (2 ^ 64) (and-left a b (and-left (a && b) c abc)); bytes = and-right (a && b && c) (all (λ x. ltb x 256) items) t }
 
 -- ---- a call
-module _ {z : Sizes} {b : Box} {c : counts.State} {n : entries.State} (h : Holds z b c n) where
-  -- an accepted call makes its next states of the two
-  pub holds-taken : (x : Call) → typed x ≡ true → accepted (step b x .0) ≡ true → Holds z (step b x .1) (countersAfter x c) (nurseryAfter x n)
-  unfolding step withCounters withNursery countersAfter nurseryAfter typed
-  holds-taken allocate t e = record { counters = alloc-held (h .counters) (answer-taken _ e); nursery = h .nursery }
-  holds-taken (batch words) t e = record { counters = batch-held-after (h .counters) words t (answer-taken _ e); nursery = h .nursery }
-  holds-taken (delta id wide inserts removes items) t e =
-      record {
-        counters = h .counters;
-        nursery = delta-held (h .nursery) wide inserts removes items id (delta-typed id wide inserts removes items t .bytes) (delta-taken (h .nursery) wide inserts removes items (answer-taken _ e));
-      }
-  holds-taken (drain round out) t e = record { counters = h .counters; nursery = drain-held (h .nursery) round _ (answer-taken _ e) }
-  holds-taken (get idx) t e = h
-  holds-taken (shrink saved) t e = record { counters = shrink-held-after (h .counters) saved; nursery = h .nursery }
-  holds-taken (serialize out) t e = h
-  holds-taken (lookup hash) t e = h
-  holds-taken (listing out) t e = h
+-- an accepted one makes its next state of each of the two
+module _ {len : ℕ} (b : Box) {c : counts.State} (h : CountersHeld len (b .counters) (b .counts) c) where
+  counters-taken : (x : Call) → typed x ≡ true → accepted (step b x .0) ≡ true → CountersHeld len (step b x .1 .counters) (step b x .1 .counts) (countersAfter x c)
+  unfolding step withCounters withNursery countersAfter typed
+  counters-taken allocate t e = alloc-held h (answer-taken _ e)
+  counters-taken (batch words) t e = batch-held-after h words t (answer-taken _ e)
+  counters-taken (delta id wide inserts removes items) t e = h
+  counters-taken (drain round out) t e = h
+  counters-taken (get idx) t e = h
+  counters-taken (shrink saved) t e = shrink-held-after h saved
+  counters-taken (serialize out) t e = h
+  counters-taken (lookup hash) t e = h
+  counters-taken (listing out) t e = h
+
+module _ {le lw lc : ℕ} (b : Box) {n : entries.State} (h : NurseryHeld le lw lc (b .nursery) (b .entries) (b .waiting) (b .cells) n) where
+  pub nursery-taken : (x : Call) → typed x ≡ true → accepted (step b x .0) ≡ true
+      → let b′ = step b x .1 in NurseryHeld le lw lc (b′ .nursery) (b′ .entries) (b′ .waiting) (b′ .cells) (nurseryAfter x n)
+  unfolding step withCounters withNursery nurseryAfter
+  nursery-taken allocate t e = h
+  nursery-taken (batch words) t e = h
+  nursery-taken (delta id wide inserts removes items) t e =
+      delta-held h wide inserts removes items id (delta-typed id wide inserts removes items t .bytes) (delta-taken h wide inserts removes items (answer-taken _ e))
+  nursery-taken (drain round out) t e = drain-held h round _ (answer-taken _ e)
+  nursery-taken (get idx) t e = h
+  nursery-taken (shrink saved) t e = h
+  nursery-taken (serialize out) t e = h
+  nursery-taken (lookup hash) t e = h
+  nursery-taken (listing out) t e = h
 
   -- a refused one leaves the box as it was
   pub refused-same : (x : Call) → accepted (step b x .0) ≡ false → step b x .1 ≡ b
@@ -92,17 +103,21 @@ module _ {z : Sizes} {b : Box} {c : counts.State} {n : entries.State} (h : Holds
       rw (q .0, q .1)
   refused-same (delta id wide inserts removes items) e =
       let r = answer-refused _ e in
-      let q = delta-refused (h .nursery) wide inserts removes items (r .0) (r .1) in
+      let q = delta-refused h wide inserts removes items (r .0) (r .1) in
       rw (q .0, q .1, q .2, q .3)
   refused-same (drain round out) e =
       let r = answer-refused _ e in
-      let q = drain-refused (h .nursery) round (zeros out) (r .0) (r .1) in
+      let q = drain-refused h round (zeros out) (r .0) (r .1) in
       rw (q .0, q .1)
   refused-same (get idx) e = refl
   refused-same (shrink saved) e = let r = answer-refused _ e in rw (shrink-refused standard (b .counters) (b .counts) saved (r .0) (r .1))
   refused-same (serialize out) e = refl
   refused-same (lookup hash) e = refl
   refused-same (listing out) e = refl
+
+pub holds-taken : {z : Sizes} {b : Box} {c : counts.State} {n : entries.State} → Holds z b c n → (x : Call) → typed x ≡ true → accepted (step b x .0) ≡ true
+    → Holds z (step b x .1) (countersAfter x c) (nurseryAfter x n)
+holds-taken {b = b} h x t e = record { counters = counters-taken b (h .counters) x t e; nursery = nursery-taken b (h .nursery) x t e }
 
 -- ---- a box as it is made, and after any calls
 abbrev pub sizesOf : History → Sizes
@@ -123,7 +138,7 @@ holding-step {z} {b} x t h = go (accepted (step b x .0)) refl
   where
     go : (ok : Bool) → accepted (step b x .0) ≡ ok → Holding z (step b x .1)
     go true e = record { counters = countersAfter x (h .counters); nursery = nurseryAfter x (h .nursery); holds = holds-taken (h .holds) x t e }
-    go false e = rw (refused-same (h .holds) x e) h
+    go false e = rw (refused-same b (h .holds .nursery) x e) h
 
 pub holding-run : {z : Sizes} {b : Box} (xs : List Call) → all typed xs ≡ true → Holding z b → Holding z (run b xs)
 unfolding run all

@@ -28,7 +28,7 @@ use Rattle.cell_nursery.specs.Calls.{lengthWidth}
 use Rattle.cell_nursery.specs.HashLaws.{U64}
 use Rattle.journal_laws.specs.WaitLaws.{waiterFor, used-waits, waits-entry, waits-once}
 use Rattle.journal_laws.specs.DeltaLaws.{delta-read}
-use Rattle.node_box.specs.Box.{Box, Call, allocate, batch, delta, drain, get, shrink, serialize, lookup, listing, step, run, accepted}
+use Rattle.node_box.specs.Box.{Box, Call, allocate, batch, delta, drain, get, shrink, serialize, lookup, listing, step, run, accepted, nurseryOf}
 use Rattle.node_box.specs.Demand.{typed, History, Typed, end}
 use Rattle.demand3.specs.States.{countersAfter, nurseryAfter}
 use Rattle.demand3.specs.CountersHeld.{counters-hold, counters-length}
@@ -90,7 +90,7 @@ held-step {z} {b} x t h = go (accepted (step b x .0)) refl
           holds = holds-taken (h .holds) x t e;
           bytes = bytes-after x (h .second) t (h .bytes);
         }
-    go false e = rw (refused-same (h .holds) x e) h
+    go false e = rw (refused-same b (h .holds .nursery) x e) h
 
 held-run : {z : Sizes} {b : Box} (xs : List Call) → all typed xs ≡ true → HeldBytes z b → HeldBytes z (run b xs)
 unfolding run all
@@ -100,10 +100,6 @@ held-run (x ∷ xs) t h = held-run xs (and-right (typed x) (all typed xs) t) (he
 held-end : (a : History) → Typed a → HeldBytes (sizesOf a) (end a)
 unfolding end empty all
 held-end a t = held-run (a .calls) (t .calls) (record { first = fresh (standard .base) (a .next); second = empty; holds = holds-start a t; bytes = refl })
-
--- the nursery's state that a box spells
-abbrev pub nurseryOf : Box → State
-nurseryOf b = nursery.stateOf (b .nursery) (b .entries) (b .waiting) (b .cells)
 
 pub record Kept (a : History) : Type 0 where
   pub counters-held : counters.holds (end a .counters) (end a .counts) ≡ true

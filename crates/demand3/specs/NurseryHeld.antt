@@ -8,7 +8,6 @@ use mathlib.Core.List.{List, []}
 use Prim.Native.Nat.{ℕ, _/_, _^_, _≤_, _<_, min}
 use native.Mathlib.Omega.{arith}
 use lib.ListN.{length}
-use Rattle.base.specs.Logic.{sumOf}
 use Rattle.base.specs.SumLaws.{length-keep}
 use Rattle.base.specs.Answers.{Outcome, refused, taken, _>>=_, orRefuse}
 use Rattle.base.specs.Output.{fitting}
@@ -22,7 +21,7 @@ use Rattle.cell_nursery.specs.Items.{Delta, deltaOf}
 use Rattle.cell_nursery.specs.Drain.{promotionDelay, due, drained, drainBytes}
 use Rattle.cell_nursery.specs.Layout.{recordOf, entriesTable, waitingTable, cellsTable, roomOf, stateOf, holds, holdsEntries, holdsCells}
 use Rattle.cell_nursery.specs.LayoutLaws.{WellFormed, length-entriesTable, length-waitingTable, length-cellsTable, stateOf-laid, holds-laid, entries-laid, cells-laid}
-use Rattle.cell_nursery.specs.EntryLaws.{well-empty, well-after, well-drained, InRoom, room-after}
+use Rattle.cell_nursery.specs.EntryLaws.{well-empty, well-after, well-drained, InRoom, room-empty, room-after}
 use Rattle.cell_nursery.specs.Calls.{Changed, DrainedOut, laid, laidOut, onState, newCall, lengthWidth, deltaCall, drainedOut, drainCall}
 use Rattle.journal_laws.specs.WaitLaws.{Waits, waits-empty, waits-after, waits-drained, stillGone}
 use Rattle.journal_laws.specs.DeltaLaws.{Bytes, Accepted, delta-read, delta-fits, taken-accepted}
@@ -82,14 +81,9 @@ unfolding laid
 laid-held es ws cs s gone w i x =
     record { same-record = refl; same-entries = refl; same-waiting = refl; same-cells = refl; well = w; rows-fit = i .rows-fit; cells-fit = i .bytes-fit; gone = gone; waits = x }
 
--- an empty nursery has room in any tables
-pub empty-fits : (rows bytes : ℕ) → InRoom rows bytes empty
-unfolding empty used cellBytes sumOf
-empty-fits rows bytes = record { rows-fit = omega arith; bytes-fit = omega arith }
-
 pub new-nursery : (es ws cs : List ℕ) → ChangedHeld (length es) (length ws) (length cs) (newCall es ws cs) empty
 unfolding newCall
-new-nursery es ws cs = laid-held es ws cs empty [] well-empty (empty-fits _ _) waits-empty
+new-nursery es ws cs = laid-held es ws cs empty [] well-empty (room-empty _ _) waits-empty
 
 -- ---- a delta
 not-refused : {r : Refusal} → Taken ≡ Refused r → ⊥
@@ -161,7 +155,7 @@ module _ {le lw lc : ℕ} {r : Nursery} {es ws cs : List ℕ} {s : State} (h : N
     abbrev draining : DrainedOut
     draining = drainCall promotionDelay r es ws cs round out
 
-    drain-outcome : draining ≡ drainedOut r ws out (fitting (length out) (taken (drainBytes promotionDelay round s))) (drained promotionDelay round s)
+    pub drain-outcome : draining ≡ drainedOut r ws out (fitting (length out) (taken (drainBytes promotionDelay round s))) (drained promotionDelay round s)
     unfolding drainCall onState
     drain-outcome = rw (nursery-holds h, nursery-state h)
 

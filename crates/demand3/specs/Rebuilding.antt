@@ -20,7 +20,7 @@ use Rattle.cell_nursery.specs.Delta.{Room}
 use Rattle.cell_nursery.specs.Drain.{listingBytes}
 use Rattle.cell_nursery.specs.Layout.{recordOf, roomOf}
 use Rattle.cell_nursery.specs.Calls.{laid}
-use Rattle.cell_nursery.specs.EntryLaws.{well-empty}
+use Rattle.cell_nursery.specs.EntryLaws.{well-empty, room-empty}
 use Rattle.journal.specs.Journal.{End, readJournal, readCall}
 use Rattle.journal_laws.specs.WaitLaws.{Waits, waits-empty, number-waits}
 use Rattle.journal_laws.specs.ReadLaws.{endOf, Applies, applies-whole, applied-waits, applied-well, applied-fits, journal-cut}
@@ -28,7 +28,7 @@ use Rattle.node_box.specs.Box.{Box, snapshotOf, listingOf}
 use Rattle.node_box.specs.Journal.{Logged, records, journalOf, whole, listingAfter, rebuild, cutEnd}
 use Rattle.node_box.specs.Demand.{History, Typed, start, end, wholeOf, wholeBytes, readBack, Rebuilt}
 use Rattle.demand3.specs.CountersHeld.{CountersHeld, laid-counters}
-use Rattle.demand3.specs.NurseryHeld.{NurseryHeld, ChangedHeld, roomFor, laid-held, empty-fits}
+use Rattle.demand3.specs.NurseryHeld.{NurseryHeld, ChangedHeld, roomFor, laid-held}
 use Rattle.demand3.specs.Holding.{sizesOf, holds-start, holding}
 use Rattle.demand3.specs.Outputs.{snapshot-is, listing-is}
 use Rattle.demand3.specs.Trace.{Step, logged, Traced, traced, wholeSteps, stepBytes, afterSteps, bytes-logged, whole-logged, listed-whole, listing-last}
@@ -86,7 +86,7 @@ module _ (a : History) (ok : Typed a) (k : ℕ) (short : k ≤ length (journalOf
     unfolding state
     nursery-read =
         laid-held es ws cs state [] (applied-well hash (λ s. s .id) (λ s. s .change) room applies well-empty)
-        (rw (le, lw, lc) (applied-fits hash (λ s. s .id) (λ s. s .change) room applies (empty-fits (room .entries) (room .cells)))) all-wait
+        (rw (le, lw, lc) (applied-fits hash (λ s. s .id) (λ s. s .change) room applies (room-empty (room .entries) (room .cells)))) all-wait
 
     -- ---- the counters, read from the snapshot
     counters : counts.State

@@ -173,7 +173,7 @@ module _ (hash : List ℕ → List ℕ) where
       go true e rest =
           traced-call h r x (records hash (step b x .1) xs) (and-left (typed x) (all typed xs) t) e
           (λ v q. rest (countersAfter x c) (nurseryAfter x n) v (holds-taken h x (and-left (typed x) (all typed xs) t) e) q)
-      go false e rest = rest c n u (rw (refused-same h x e) h) r
+      go false e rest = rest c n u (rw (refused-same b (h .nursery) x e) h) r
 
   -- ---- the whole records, and the listing after the last of them
   abbrev pub wholeSteps : ℕ → List Step → List Step

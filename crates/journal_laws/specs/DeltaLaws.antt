@@ -3,10 +3,10 @@
 use mathlib.Core.Path.{_≡_, refl, ap, _∙_}
 use mathlib.Core.Bool.{Bool, true, false, _&&_, _||_}
 use mathlib.Core.Option.{Option, none, some}
-use mathlib.Core.List.{List, [], _∷_, _++_, reverse, reverse-cons}
+use mathlib.Core.List.{List, [], _∷_, reverse, reverse-cons}
 use Prim.Native.Nat.{ℕ, zero, suc, _+_, _*_, _^_, _≤_, _<_}
 use native.Mathlib.Omega.{arith}
-use lib.ListN.{length, take, drop, length-append, length-reverse, take-append-drop}
+use lib.ListN.{length, length-append, length-reverse}
 use lib.Seq.{length-take-le}
 use lib.Dec.{leb, ltb}
 use borrow.Author.Tests.{lt-ltb, leb-true, le-leb, ltb-false}
@@ -18,7 +18,7 @@ use Rattle.base.specs.OutcomeLaws.{refused-taken, taken-same}
 use Rattle.base.specs.declared.Refusal.the-variants.{Present, NurseryFull, TooLong}
 use Rattle.base.specs.Bytes.{cut, readLe, readList}
 use Rattle.base.specs.Laws.{and-left, and-right, and-both, length-digits}
-use Rattle.base.specs.ListLaws.{or-false, all-append, all-weaker}
+use Rattle.base.specs.ListLaws.{or-false, all-append, all-weaker, all-take, all-drop}
 use Rattle.base.specs.SumLaws.{all-one}
 use Rattle.base.specs.NumberLaws.{number-below}
 use Rattle.cell_nursery.specs.Entries.{Entry, State, hashBytes, insertBytes}
@@ -47,21 +47,15 @@ given {P = P} {a = a} g e = go (rw e at g)
     go : Gives P (some a) → P a
     go (gives p) = p
 
+pub gives-each : {A : Type 0} {P : A → Type 0} (o : Option A) → ((a : A) → o ≡ some a → P a) → Gives P o
+gives-each none h = nothing
+gives-each (some a) h = gives (h a refl)
+
 -- ---- bytes, and what is read of them
 abbrev pub Bytes : List ℕ → Type 0
 Bytes bs = all (λ b. ltb b 256) bs ≡ true
 
 module _ {A : Type 0} (p : A → Bool) where
-  all-left : (xs ys : List A) → all p (xs ++ ys) ≡ true → all p xs ≡ true
-  unfolding all
-  all-left [] ys e = refl
-  all-left (x ∷ xs) ys e = and-both (p x) (all p xs) (and-left (p x) (all p (xs ++ ys)) e) (all-left xs ys (and-right (p x) (all p (xs ++ ys)) e))
-
-  all-right : (xs ys : List A) → all p (xs ++ ys) ≡ true → all p ys ≡ true
-  unfolding all
-  all-right [] ys e = e
-  all-right (x ∷ xs) ys e = all-right xs ys (and-right (p x) (all p (xs ++ ys)) e)
-
   all-reverse : (xs : List A) → all p xs ≡ true → all p (reverse xs) ≡ true
   unfolding all
   all-reverse [] e = refl
@@ -71,8 +65,7 @@ pub cut-bytes : (n : ℕ) (bs : List ℕ) → Bytes bs → Gives (λ y. (length 
 unfolding cut
 cut-bytes n bs b =
     gives-ensure (leb n (length bs)) (λ e.
-    let whole = rw (← take-append-drop n bs) at b in
-    gives (length-take-le n bs (leb-true n (length bs) e), all-left (λ x. ltb x 256) (take n bs) (drop n bs) whole, all-right (λ x. ltb x 256) (take n bs) (drop n bs) whole))
+    gives (length-take-le n bs (leb-true n (length bs) e), all-take (λ x. ltb x 256) n bs b, all-drop (λ x. ltb x 256) n bs b))
 
 pub le-bytes : (k : ℕ) (bs : List ℕ) → Bytes bs → Gives (λ y. (y .0 < 256 ^ k) × Bytes (y .1)) (readLe k bs)
 unfolding readLe

@@ -1,13 +1,12 @@
 -- An accepted call on tables that hold a state leaves tables that hold one, wherever they came from: 20 never follows it.
 -- Assumes nothing.
-use mathlib.Core.Path.{_≡_, refl, sym, ap, _∙_}
+use mathlib.Core.Path.{_≡_, refl, sym, ap}
 use mathlib.Core.Bool.{Bool, true}
 use mathlib.Core.Option.{Option, none, some}
 use mathlib.Core.List.{List}
-use Prim.Native.Nat.{ℕ, _/_, _≤_, min}
+use Prim.Native.Nat.{ℕ, _/_, min}
 use native.Mathlib.Omega.{arith}
 use lib.ListN.{length}
-use Rattle.base.specs.Logic.{sumOf}
 use Rattle.base.specs.SumLaws.{length-keep}
 use Rattle.base.specs.Answers.{Outcome, refused, taken, _>>=_, orRefuse}
 use Rattle.base.specs.Output.{fitting}
@@ -22,7 +21,7 @@ use Rattle.cell_nursery.specs.Drain.{due, drained, drainBytes}
 use Rattle.cell_nursery.specs.Layout.{recordOf, entriesTable, waitingTable, cellsTable, roomOf, stateOf, holds}
 use Rattle.cell_nursery.specs.HashLaws.{U64}
 use Rattle.cell_nursery.specs.LayoutLaws.{Held, WellFormed, held, holds-laid, number-entries, number-waiting}
-use Rattle.cell_nursery.specs.EntryLaws.{well-empty, well-after, well-drained, InRoom, room-after}
+use Rattle.cell_nursery.specs.EntryLaws.{well-empty, well-after, well-drained, InRoom, room-empty, room-after}
 use Rattle.cell_nursery.specs.Calls.{Changed, DrainedOut, laid, laidOut, onState, newCall, lengthWidth, deltaCall, drainedOut, drainCall}
 use Rattle.journal_laws.specs.DeltaLaws.{Bytes, delta-read, delta-fits, taken-accepted}
 
@@ -38,8 +37,8 @@ unfolding laid
 laid-holds es ws cs s w i = holds-laid s (length es) (length ws) (length cs) w (i .rows-fit) (i .bytes-fit)
 
 pub new-holds : (es ws cs : List ℕ) → Leaves (newCall es ws cs)
-unfolding newCall empty used cellBytes sumOf
-new-holds es ws cs = laid-holds es ws cs empty well-empty (record { rows-fit = omega arith; bytes-fit = omega arith })
+unfolding newCall
+new-holds es ws cs = laid-holds es ws cs empty well-empty (room-empty _ _)
 
 module _ (r : Nursery) (es ws cs : List ℕ) (u : U64 es) (v : U64 ws) (h : holds r es ws cs ≡ true) where
   abbrev s : State

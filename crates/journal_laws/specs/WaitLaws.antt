@@ -2,7 +2,7 @@
 -- So there are never more waiting rows than entries, and as many where nothing was handed out.
 -- Assumes nothing.
 use mathlib.Core.Path.{_≡_, refl, sym, ap, subst, _∙_}
-use mathlib.Core.Bool.{Bool, true, false, not, _||_}
+use mathlib.Core.Bool.{Bool, true, false, not}
 use mathlib.Core.Option.{none, some}
 use mathlib.Core.List.{List, [], _∷_, _++_, map, append-assoc, map-append, map-map}
 use mathlib.Core.List.{List·Permᴰ as Reordered, List·Permᴰ·nil as order-nil, List·Permᴰ·cons as order-cons, List·Permᴰ·swap as order-swap, List·Permᴰ·trans as order-trans}
@@ -22,7 +22,7 @@ use Rattle.cell_nursery.specs.Entries.{Entry, Waiting, State, empty, putEntry, 
 use Rattle.cell_nursery.specs.Items.{Delta}
 use Rattle.cell_nursery.specs.Delta.{present, used, stateAfter}
 use Rattle.cell_nursery.specs.Drain.{due, drained}
-use Rattle.cell_nursery.specs.EntryLaws.{entryAt, entryAt-put, entryAt-miss}
+use Rattle.cell_nursery.specs.EntryLaws.{entryAt, elem-entryAt, entryAt-put, entryAt-miss}
 
 -- ---- a list in two parts
 module _ {A : Type 0} where
@@ -181,13 +181,7 @@ module _ (gone : List Waiting) (s : State) (w : Waits gone s) where
 -- ---- a whole delta
 -- a hash with no entry is absent
 none-absent : (h : ℕ) (es : List Entry) → entryAt h es ≡ none → elem h (map (λ e. e .hash) es) ≡ false
-unfolding entryAt any
-none-absent h [] n = refl
-none-absent h (e ∷ es) n = go (none-absent h es) (eqb (e .hash) h) refl n
-  where
-    go : (entryAt h es ≡ none → elem h (map (λ x. x .hash) es) ≡ false) → (b : Bool) → eqb (e .hash) h ≡ b → pick b (some e) (entryAt h es) ≡ none → (eqb h (e .hash) || elem h (map (λ x. x .hash) es)) ≡ false
-    go r true q m = let z : _≡_ {A = ℕ} 0 1 = cc in absurd (omega arith)
-    go r false q m = rw (eqb-sym h (e .hash), q) (r m)
+none-absent h es n = elem-entryAt h es ∙ rw n
 
 -- after an insert of another hash it is still absent
 absent-insert : (h : ℕ) (e : Entry) (s : State) → (h ≡ e .hash → ⊥) → elem h (map (λ x. x .hash) (s .entries)) ≡ false → elem h (map (λ x. x .hash) (insert e s .entries)) ≡ false

@@ -156,7 +156,7 @@ module _ (hash : List ℕ → List ℕ) (s : List ℕ) (r₀ : Nursery) (es₀ w
               let bytes = u8-drop place s u in
               let whole = decode-whole rest hash d bytes i in
               let (ok, same) = taken-accepted (roomOf es ws cs) here (d .delta) t p in
-              let read = delta-read 2 inserts removes (take (size - 16) (drop 56 rest)) (d .delta) (u8-part 56 (size - 16) rest (omega (arith, whole .head, whole .inside)) bytes) (whole .items) in
+              let read = delta-read 2 inserts removes (take (size - 16) (drop 56 rest)) (d .delta) (u8-part 56 (size - 16) rest bytes) (whole .items) in
               let well : WellFormed t = rw same (well-after (d .delta) here (delta-fits 0 inserts removes (d .delta) (omega arith) read (ok .short) .inserts) (is-held .well)) in
               let fit : InRoom (min (length es / 8) (length ws / 5)) (length cs) t = rw same (room-after (roomOf es ws cs) (d .delta) here (ok .fits)) in
               let state-same : stateOf (q .nursery) es' ws' cs' ≡ t = rw (a, f, g, h) (stateOf-laid t (length es) (length ws) (length cs) well (fit .rows-fit) (fit .bytes-fit)) in

@@ -8,12 +8,13 @@ use Prim.Native.Nat.{ℕ, _+_, _-_, _^_, _≤_, _<_}
 use native.Mathlib.Decide.{decLt}
 use native.Mathlib.Omega.{arith}
 use lib.ListN.{length, take, drop, getD}
-use lib.Seq.{drop-drop, getD-take, getD-drop}
+use lib.Seq.{drop-drop, getD-drop}
 use lib.Dec.{leb, ltb}
 use borrow.Author.Tests.{ltb-false}
 use Rattle.base.specs.Logic.{eqbList}
 use Rattle.base.specs.Bytes.{unle}
 use Rattle.base.specs.Answers.{Outcome, refused, taken, _>>=_, _>>_, refuseIf, orRefuse}
+use Rattle.base.specs.ListLaws.{all-take, all-drop}
 use Rattle.base.specs.OutcomeLaws.{refused-taken, taken-same}
 use Rattle.base.specs.declared.Refusal.{Refusal}
 use Rattle.base.specs.declared.Refusal.the-variants.{ShortRecord, FarLength, Mismatch, Misfit}
@@ -40,11 +41,11 @@ U8 s = (i : ℕ) → getD s i 0 < 256
 pub u8-drop : (n : ℕ) (s : List ℕ) → U8 s → U8 (drop n s)
 u8-drop n s u i = rw (getD-drop n s i 0) (u (n + i))
 
-pub u8-part : (at k : ℕ) (s : List ℕ) → at + k ≤ length s → U8 s → Bytes (take k (drop at s))
-u8-part at k s h u =
-    all-below 256 (take k (drop at s)) (λ i l.
-    let j : i < k = omega (arith, l, length-part s at k h) in
-    rw (getD-take k (drop at s) i 0 j, getD-drop at s i 0) (u (at + i)))
+pub u8-bytes : (s : List ℕ) → U8 s → Bytes s
+u8-bytes s u = all-below 256 s (λ i l. u i)
+
+pub u8-part : (at k : ℕ) (s : List ℕ) → U8 s → Bytes (take k (drop at s))
+u8-part at k s u = all-take (λ b. ltb b 256) k (drop at s) (all-drop (λ b. ltb b 256) at s (u8-bytes s u))
 
 -- ---- a payload that is taken
 payload-none : (p : List ℕ) (q : Payload) → payloadOf p ≡ none → payloadOf p ≡ some q → ⊥
@@ -84,7 +85,7 @@ module _ (bs : List ℕ) where
       let k : 16 + (n - 16) ≡ n = omega arith in
       let same : drop 16 (take n (drop 40 bs)) ≡ take (n - 16) (drop 56 bs) = ap (λ (x : ℕ). drop 16 (take x (drop 40 bs))) (sym k) ∙ drop-take 16 (n - 16) (drop 40 bs) ∙ rw (drop-drop 16 40 bs) in
       let items = rw same at (r .items) in
-      let counts = delta-read 2 _ _ (take (n - 16) (drop 56 bs)) (q .delta) (u8-part 56 (n - 16) bs (omega arith) u) items in
+      let counts = delta-read 2 _ _ (take (n - 16) (drop 56 bs)) (q .delta) (u8-part 56 (n - 16) bs u) items in
       record { head = h; inside = l; items = rw (counts .number-inserts, counts .number-removes) items }
 
   pub decode-whole : (hash : List ℕ → List ℕ) (d : Decoding) → U8 bs → decode hash bs ≡ taken d → Whole d

@@ -12,6 +12,7 @@ use lib.ListN.{length, getD, take, drop}
 use lib.Seq.{take-at}
 use lib.Dec.{ltb}
 use borrow.Author.Tests.{le-ltb, lt-ltb}
+use Rattle.base.specs.ListLaws.{all-drop}
 use Rattle.base.specs.Logic.{all, overlay}
 use Rattle.base.specs.Laws.{and-left, and-right}
 use Rattle.base.specs.Answers.{Outcome, refused, taken, answerNumber, answerOf}
@@ -43,16 +44,10 @@ module _ (p : ℕ → Bool) where
   word-passes (x ∷ t) zero z a = and-left (p x) (all p t) a
   word-passes (x ∷ t) (suc i) z a = word-passes t i z (and-right (p x) (all p t) a)
 
-  pub words-behind : (k : ℕ) (t : List ℕ) → all p t ≡ true → all p (drop k t) ≡ true
-  unfolding all
-  words-behind zero t a = a
-  words-behind (suc k) [] a = a
-  words-behind (suc k) (x ∷ t) a = words-behind k t (and-right (p x) (all p t) a)
-
   rows-pass : (n : ℕ) (t : List ℕ) → p 0 ≡ true → all p t ≡ true → all (λ e. p (e .count)) (rowsOf countRow n t) ≡ true
   unfolding all rowsOf
   rows-pass zero t z a = refl
-  rows-pass (suc n) t z a = rw (word-passes t 1 z a) (rows-pass n (drop 2 t) z (words-behind 2 t a))
+  rows-pass (suc n) t z a = rw (word-passes t 1 z a) (rows-pass n (drop 2 t) z (all-drop p 2 t a))
 
 module _ (c : Counters) (t : List ℕ) (h : holds c t ≡ true) where
   -- the state that they hold is well-formed where their numbers are u64

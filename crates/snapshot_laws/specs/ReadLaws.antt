@@ -10,6 +10,7 @@ use native.Mathlib.Omega.{arith}
 use lib.ListN.{length, take, drop, length-take}
 use lib.Dec.{ltb, eqb}
 use borrow.Author.Tests.{lt-ltb, ltb-true, eqb-true, eq-eqb}
+use Rattle.base.specs.ListLaws.{all-take, all-drop}
 use Rattle.base.specs.Logic.{pick, all, fold, elem, ascending, ascendingFrom}
 use Rattle.base.specs.Laws.{and-left, and-right, ascending-tail}
 use Rattle.base.specs.NumberLaws.{number-below}
@@ -24,7 +25,6 @@ use Rattle.snapshot.specs.Read.{readSnapshot}
 use Rattle.snapshot_laws.specs.SetLaws.{index, setRow, stored-before, stored-rows}
 use Rattle.snapshot_laws.specs.SmallLaws.{count-layBit}
 use Rattle.snapshot_laws.specs.RoundTrip.{WellFormed}
-use Rattle.snapshot_laws.specs.CallLaws.{words-behind}
 use Rattle.snapshot_laws.specs.StoredLaws.{two, rows-two, rows-ascend}
 use Rattle.snapshot_laws.specs.Parts.{nextOf, liveOf, start, payload, setOf, smallOf, restOf, pairs, largeOf, countsOf}
 use Rattle.snapshot_laws.specs.RefusalLaws.{read-state, read-ordered, counts-ascend, large-taken}
@@ -95,26 +95,17 @@ module _ (bs : List ℕ) (counts : all two (largeOf bs) ≡ true) (j : ℕ) wher
 abbrev bytes : List ℕ → Type 0
 bytes bs = all (λ b. ltb b 256) bs ≡ true
 
-bytes-take : (k : ℕ) (bs : List ℕ) → bytes bs → bytes (take k bs)
-unfolding all
-bytes-take zero bs a = refl
-bytes-take (suc k) [] a = refl
-bytes-take (suc k) (b ∷ bs) a = rw (and-left (ltb b 256) (all (λ x. ltb x 256) bs) a) (bytes-take k bs (and-right (ltb b 256) (all (λ x. ltb x 256) bs) a))
-
-bytes-drop : (k : ℕ) (bs : List ℕ) → bytes bs → bytes (drop k bs)
-bytes-drop k bs a = words-behind (λ b. ltb b 256) k bs a
-
 unle-fits : (bs : List ℕ) → bytes bs → unle (take 8 bs) < 2 ^ 64
 unle-fits bs a =
     let n : ℕ = length (take 8 bs) in
     let l : n ≤ 8 = simp length-take (omega arith) in
     let p : 256 ^ n ≤ 256 ^ 8 = pow-le-pow-right {n = 256} (omega arith) l in
-    omega (arith, number-below 256 (take 8 bs) (bytes-take 8 bs a))
+    omega (arith, number-below 256 (take 8 bs) (all-take (λ b. ltb b 256) 8 bs a))
 
 pairs-fit : (n : ℕ) (bs : List ℕ) → bytes bs → all (λ e. ltb (e .count) (2 ^ 64)) (pairs n bs) ≡ true
 unfolding pairs all
 pairs-fit zero bs a = refl
-pairs-fit (suc n) bs a = rw (lt-ltb (unle (take 8 (drop 8 bs))) (2 ^ 64) (unle-fits (drop 8 bs) (bytes-drop 8 bs a))) (pairs-fit n (drop 16 bs) (bytes-drop 16 bs a))
+pairs-fit (suc n) bs a = rw (lt-ltb (unle (take 8 (drop 8 bs))) (2 ^ 64) (unle-fits (drop 8 bs) (all-drop (λ b. ltb b 256) 8 bs a))) (pairs-fit n (drop 16 bs) (all-drop (λ b. ltb b 256) 16 bs a))
 
 last-fits : (j : ℕ) (xs : List Entry) (n : ℕ) → n < 2 ^ 64 → all (λ e. ltb (e .count) (2 ^ 64)) xs ≡ true → fold (later j) xs n < 2 ^ 64
 unfolding fold all
@@ -164,8 +155,8 @@ module _ (base room : ℕ) (bs : List ℕ) (s : State) (ok : readSnapshot base r
   unfolding countAt lastAt
   read-well-formed a =
       record {
-        next-fits = rw read-next (unle-fits (drop 1 bs) (bytes-drop 1 bs a));
-        live-fits = rw read-live (unle-fits (drop 9 bs) (bytes-drop 9 bs a));
+        next-fits = rw read-next (unle-fits (drop 1 bs) (all-drop (λ b. ltb b 256) 1 bs a));
+        live-fits = rw read-live (unle-fits (drop 9 bs) (all-drop (λ b. ltb b 256) 9 bs a));
         sorted = read-ordered base room bs s ok;
         counts-fit = stored-pass (λ n. ltb n (2 ^ 64)) 0 (s .counts) refl ascend (λ j. lt-ltb (storedAt j (s .counts)) (2 ^ 64) (fits j));
       }
@@ -174,7 +165,7 @@ module _ (base room : ℕ) (bs : List ℕ) (s : State) (ok : readSnapshot base r
       ascend = rw (read-state base room bs s ok) (counts-ascend bs)
 
       fits : (j : ℕ) → storedAt j (s .counts) < 2 ^ 64
-      fits j = go (lastAt j (largeOf bs)) (ltb 0 (lastAt j (largeOf bs))) (last-fits j (largeOf bs) 0 (omega arith) (pairs-fit (length (restOf bs) / 16) (restOf bs) (bytes-drop (start bs 8) bs a))) (read-count j)
+      fits j = go (lastAt j (largeOf bs)) (ltb 0 (lastAt j (largeOf bs))) (last-fits j (largeOf bs) 0 (omega arith) (pairs-fit (length (restOf bs) / 16) (restOf bs) (all-drop (λ b. ltb b 256) (start bs 8) bs a))) (read-count j)
         where
           go : (n : ℕ) (b : Bool) → n < 2 ^ 64 → countAt j (s .counts) ≡ pick b n (1 + codeOf bs j 8) → storedAt j (s .counts) < 2 ^ 64
           go n true l e = omega arith

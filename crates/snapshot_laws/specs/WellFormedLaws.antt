@@ -10,7 +10,7 @@ use lib.ListN.{length, drop}
 use lib.Dec.{leb, ltb, eqb}
 use Rattle.base.specs.Logic.{pick, all, fold, max64}
 use Rattle.base.specs.Laws.{and-left, and-right}
-use Rattle.base.specs.ListLaws.{all-keep}
+use Rattle.base.specs.ListLaws.{all-keep, all-drop}
 use Rattle.base.specs.Answers.{taken}
 use Rattle.base.specs.declared.Refusal.{Refusal}
 use Rattle.base.specs.declared.Refusal.the-variants.{Spent, Broken}
@@ -31,7 +31,7 @@ use Rattle.counters.specs.CallLaws.{new-state, alloc-answer, alloc-taken, alloc
 use Rattle.counters.specs.CountLaws.{ordered-more}
 use Rattle.snapshot_laws.specs.SetLaws.{ordered-none}
 use Rattle.snapshot_laws.specs.RoundTrip.{WellFormed}
-use Rattle.snapshot_laws.specs.CallLaws.{word-passes, words-behind}
+use Rattle.snapshot_laws.specs.CallLaws.{word-passes}
 
 -- ---- counts of 8 bytes
 abbrev fits : Entry → Bool
@@ -71,7 +71,7 @@ applied-well-formed room s ts s′ ok w a =
 words-fit : (n : ℕ) (ws : List ℕ) → all (λ w. ltb w (2 ^ 64)) ws ≡ true → all (λ t. ltb (t .«new_raw») (2 ^ 64)) (rowsOf transitionRow n ws) ≡ true
 unfolding all rowsOf
 words-fit zero ws a = refl
-words-fit (suc n) ws a = rw (word-passes (λ w. ltb w (2 ^ 64)) ws 2 refl a) (words-fit n (drop 3 ws) (words-behind (λ w. ltb w (2 ^ 64)) 3 ws a))
+words-fit (suc n) ws a = rw (word-passes (λ w. ltb w (2 ^ 64)) ws 2 refl a) (words-fit n (drop 3 ws) (all-drop (λ w. ltb w (2 ^ 64)) 3 ws a))
 
 batch-fits : (ws : List ℕ) (ts : List CounterTransition) → all (λ w. ltb w (2 ^ 64)) ws ≡ true → batchOf ws ≡ some ts → all (λ t. ltb (t .«new_raw») (2 ^ 64)) ts ≡ true
 unfolding batchOf

@@ -7,30 +7,28 @@ use mathlib.Core.Logic.{_↔_}
 use mathlib.Core.Bool.{Bool, true, false, not, false≢true}
 use mathlib.Core.Option.{Option, none, some}
 use mathlib.Core.List.{List, [], _∷_}
-use native.Mathlib.Omega.{arith}
 use lib.ListN.{length, take, drop}
 use lib.Dec.{ltb, leb}
 use borrow.Author.Tests.{eq-eqb, ne-eqb}
-use Rattle.base.specs.Logic.{any, elem, zeros, eqbList, sumOf}
+use Rattle.base.specs.Logic.{any, elem, zeros, eqbList}
 use Rattle.base.specs.Bytes.{unle}
 use Rattle.base.specs.Answers.{Outcome, refused, taken, _>>=_, _>>_, refuseIf, orRefuse, either, numberOf, answerNumber}
 use Rattle.base.specs.OutcomeLaws.{Refuses, refuses-none}
 use Rattle.base.specs.declared.Refusal.{Refusal}
 use Rattle.base.specs.declared.Refusal.the-variants.{Present, NurseryFull, TooLong, OutputFull, ShortRecord, FarLength, Mismatch, Misfit, Broken}
 use Rattle.blake3.specs.Spec as blake3
-use Rattle.cell_nursery.specs.Entries.{State, empty, cellBytes}
+use Rattle.cell_nursery.specs.Entries.{State, empty}
 use Rattle.cell_nursery.specs.Items.{Delta, deltaOf}
-use Rattle.cell_nursery.specs.Delta.{Room, tooLong, present, used, full, stateAfter, applyDelta}
+use Rattle.cell_nursery.specs.Delta.{Room, tooLong, present, full, stateAfter, applyDelta}
 use Rattle.cell_nursery.specs.Layout.{recordOf, entriesTable, waitingTable, cellsTable, roomOf}
-use Rattle.cell_nursery.specs.LayoutLaws.{WellFormed, holds-laid}
-use Rattle.cell_nursery.specs.EntryLaws.{well-empty, well-after, InRoom, room-after}
+use Rattle.cell_nursery.specs.LayoutLaws.{holds-laid}
 use Rattle.cell_nursery.specs.Calls.{lengthWidth, laid}
 use Rattle.format.specs.Payload.{Payload, payloadOf}
 use Rattle.format.specs.Record.{Encoding, Decoding, statsOf, encode, decode}
 use Rattle.format.specs.Calls.{noStats, encodedOut, encodeCall, decodedOf, decodeCall}
 use Rattle.journal.specs.Journal.{readFrom, readJournal, readCall}
-use Rattle.journal_laws.specs.DeltaLaws.{delta-read, delta-fits, taken-accepted}
-use Rattle.journal_read.specs.RecordLaws.{U8, u8-drop, u8-part, decode-whole}
+use Rattle.journal_laws.specs.LoadLaws.{journal-loaded}
+use Rattle.journal_read.specs.RecordLaws.{U8, u8-bytes}
 use Rattle.state_words.specs.WordLaws.{over-nursery}
 use Rattle.state_words.specs.Words.{brokenSaid, overNursery, Unchanged, left}
 use Rattle.word_calls.specs.NurserySaid.{flag}
@@ -125,54 +123,13 @@ module _ (bs w es ws cs : List ℕ) where
   unfolding journalSaid overNursery
   journal-unchanged n = rw (ne-eqb (length w) 3 n)
 
--- ---- what is left may be lent to the held forms
-module _ (hash : List ℕ → List ℕ) (m : Room) where
-  -- what every state of a reading is
-  abbrev Kept : State → Type 0
-  Kept s = WellFormed s × InRoom (m .entries) (m .cells) s
-
-  applied-kept : (s t : State) (d : Decoding) (bs : List ℕ) → U8 bs → decode hash bs ≡ taken d → applyDelta m s (d .delta) ≡ taken t → Kept s → Kept t
-  applied-kept s t d bs u e f k =
-      let size = d .stats .«payload_bytes» in
-      let inserts = d .stats .«insert_ops» in
-      let removes = d .stats .«remove_ops» in
-      let whole = decode-whole bs hash d u e in
-      let (ok, same) = taken-accepted m s (d .delta) t f in
-      let read = delta-read 2 inserts removes (take (size - 16) (drop 56 bs)) (d .delta) (u8-part 56 (size - 16) bs (omega (arith, whole .head, whole .inside)) u) (whole .items) in
-      let well : WellFormed t = rw same (well-after (d .delta) s (delta-fits 0 inserts removes (d .delta) (omega arith) read (ok .short) .inserts) (k .0)) in
-      (well, rw same (room-after m (d .delta) s (ok .fits)))
-
-  reading-kept : (s : State) (applied place skip : ℕ) (bs : List ℕ) → U8 bs → Kept s → Kept (readFrom hash m s applied place skip bs .state)
-  unfolding readFrom
-  reading-kept s applied place skip [] u k = k
-  reading-kept s applied place (suc skip) (b ∷ bs) u k = reading-kept s applied place skip bs (u8-drop 1 (b ∷ bs) u) k
-  reading-kept s applied place zero (b ∷ bs) u k =
-      decoded (λ t n. reading-kept t (suc applied) (place + 40 + n) (39 + n) bs (u8-drop 1 (b ∷ bs) u)) (decode hash (b ∷ bs)) refl
-    where
-      Ends : Type 0
-      Ends = Kept (readFrom hash m s applied place zero (b ∷ bs) .state)
-
-      Later : Type 0
-      Later = (t : State) (n : ℕ) → Kept t → Kept (readFrom hash m t (suc applied) (place + 40 + n) (39 + n) bs .state)
-
-      done : Later → (d : Decoding) → decode hash (b ∷ bs) ≡ taken d → (o : Outcome State) → applyDelta m s (d .delta) ≡ o → Ends
-      done later d e (refused q) f = rw (e, f) k
-      done later d e (taken t) f = rw (e, f) (later t (d .stats .«payload_bytes») (applied-kept s t d (b ∷ bs) u e f k))
-
-      decoded : Later → (o : Outcome Decoding) → decode hash (b ∷ bs) ≡ o → Ends
-      decoded later (refused q) e = rw e k
-      decoded later (taken d) e = done later d e (applyDelta m s (d .delta)) refl
-
--- whatever ended it
+-- ---- what is left may be lent to the held forms, whatever ended the reading
 pub journal-held : (bs w es ws cs : List ℕ) → U8 bs → length w ≡ 3
     → let s = journalSaid bs w es ws cs in Held (left 0 s) (left 1 s) (left 2 s) (left 3 s)
-unfolding journalSaid readInSaid readCall readJournal laid roomOf empty used cellBytes sumOf
+unfolding journalSaid readInSaid readCall laid roomOf
 journal-held bs w es ws cs u e =
-    let k = reading-kept blake3.hash (roomOf es ws cs) empty 0 0 0 bs u (well-empty, fresh) in
     let t = readJournal blake3.hash (roomOf es ws cs) bs .state in
+    let l = journal-loaded blake3.hash (roomOf es ws cs) bs (u8-bytes bs u) in
     subst (λ s. Held (left 0 s) (left 1 s) (left 2 s) (left 3 s)) (over-nursery w _ _ e)
     (words-held (recordOf t) (entriesTable (length es) t) (waitingTable (length ws) t) (cellsTable (length cs) t)
-    (holds-laid t (length es) (length ws) (length cs) (k .0) (k .1 .rows-fit) (k .1 .bytes-fit)))
-  where
-    fresh : InRoom (roomOf es ws cs .entries) (roomOf es ws cs .cells) empty
-    fresh = record { rows-fit = omega arith; bytes-fit = omega arith }
+    (holds-laid t (length es) (length ws) (length cs) (l .well) (l .room .rows-fit) (l .room .bytes-fit)))
