@@ -1,0 +1,133 @@
+-- An entry is handed out exactly once: what is claimed, without its proof.
+-- Assumes nothing.
+use mathlib.Core.Path.{_≡_}
+use mathlib.Core.Bool.{Bool, true, false, not, _&&_, _||_}
+use mathlib.Core.Option.{Option, none, some}
+use mathlib.Core.List.{List, [], _∷_, _++_}
+use Prim.Native.Nat.{ℕ, _+_, _^_, _≤_, _<_}
+use lib.ListN.{length, take}
+use lib.Dec.{leb, ltb, eqb}
+use Rattle.base.specs.Logic.{pick, all, elem, flat, keep}
+use Rattle.base.specs.ListLaws.{Among}
+use Rattle.base.specs.Maybe.{maybe}
+use Rattle.base.specs.declared.Answer.the-variants.{Taken}
+use Rattle.blake3.specs.Spec.{hash}
+use Rattle.cell_nursery.specs.Entries.{Entry}
+use Rattle.cell_nursery.specs.Items.{Delta, deltaOf}
+use Rattle.cell_nursery.specs.Drain.{promotionDelay, promoted, promotedBytes}
+use Rattle.cell_nursery.specs.Calls.{lengthWidth, drainCall}
+use Rattle.node_box.specs.Box.{Box, Call, allocate, batch, delta, drain, get, shrink, serialize, lookup, listing, made, accepted, step, run, nurseryOf}
+use Rattle.node_box.specs.Journal.{rebuild}
+use Rattle.node_box.specs.Demand.{typed}
+
+-- a box that was made, or read in from a snapshot and a journal of any bytes, after any calls on it
+pub data Reachable : Box → Type 0 where
+  fresh : (next : ℕ) (t es ws cs : List ℕ) → Reachable (made next t es ws cs)
+  rebuilt : (snapshot journal t es ws cs : List ℕ) → all (λ b. ltb b 256) journal ≡ true → Reachable (rebuild hash snapshot journal t es ws cs .box)
+  called : {b : Box} → Reachable b → (x : Call) → typed x ≡ true → Reachable (step b x .1)
+
+-- the delta that a call lends; none where it lends none
+unfoldable pub deltaIn : Call → Option Delta
+deltaIn allocate = none
+deltaIn (batch words) = none
+deltaIn (delta id wide inserts removes items) = deltaOf (lengthWidth wide) inserts removes items
+deltaIn (drain round out) = none
+deltaIn (get idx) = none
+deltaIn (shrink saved) = none
+deltaIn (serialize out) = none
+deltaIn (lookup h) = none
+deltaIn (listing out) = none
+
+-- the entries that it is to insert, and the hashes that it is to remove
+abbrev pub insertsOf : Call → List Entry
+insertsOf x = maybe [] (λ d. d .inserts) (deltaIn x)
+
+abbrev pub removesOf : Call → List ℕ
+removesOf x = maybe [] (λ d. d .removes) (deltaIn x)
+
+-- the round of a drain; none where a call drains nothing
+unfoldable pub roundOf : Call → Option ℕ
+roundOf allocate = none
+roundOf (batch words) = none
+roundOf (delta id wide inserts removes items) = none
+roundOf (drain round out) = some round
+roundOf (get idx) = none
+roundOf (shrink saved) = none
+roundOf (serialize out) = none
+roundOf (lookup h) = none
+roundOf (listing out) = none
+
+-- the entries that a call hands out: those of an accepted drain
+unfoldable pub promotedBy : Box → Call → List Entry
+promotedBy b x = maybe [] (λ round. pick (accepted (step b x .0)) (promoted promotionDelay round (nurseryOf b)) []) (roundOf x)
+
+-- the entries that a list of calls hands out
+unfoldable pub promotedIn : Box → List Call → List Entry
+promotedIn b [] = []
+promotedIn b (x ∷ xs) = promotedBy b x ++ promotedIn (step b x .1) xs
+
+-- the bytes that a drain at a round writes into an output
+unfoldable pub drainedBytes : Box → ℕ → List ℕ → List ℕ
+drainedBytes b round out =
+    let r = drainCall promotionDelay (b .nursery) (b .entries) (b .waiting) (b .cells) round out in
+    take (r .result .len) (r .out)
+
+-- one of the calls is accepted and passes a test
+unfoldable pub anyAccepted : (Call → Bool) → Box → List Call → Bool
+anyAccepted p b [] = false
+anyAccepted p b (x ∷ xs) = (accepted (step b x .0) && p x) || anyAccepted p (step b x .1) xs
+
+-- one of them is an accepted drain at a round of at least m
+abbrev pub drainsFrom : ℕ → Box → List Call → Bool
+drainsFrom m b xs = anyAccepted (λ x. maybe false (leb m) (roundOf x)) b xs
+
+-- one of them is an accepted delta that removes the hash
+abbrev pub removesHash : ℕ → Box → List Call → Bool
+removesHash h b xs = anyAccepted (λ x. elem h (removesOf x)) b xs
+
+-- the entries of a hash
+abbrev pub withHash : ℕ → List Entry → List Entry
+withHash h es = keep (λ e. eqb (e .hash) h) es
+
+-- the first round at which an entry is due
+abbrev pub dueFrom : Entry → ℕ
+dueFrom e = e .born + promotionDelay
+
+-- a drain right after the calls xs on b is the one that hands out e: it is accepted, e is due at its round, and no accepted drain among the
+-- calls was at such a round
+abbrev pub promotes : Entry → Box → List Call → ℕ → ℕ → Bool
+promotes e b xs round out = accepted (step (run b xs) (drain round out) .0) && leb (dueFrom e) round && not (drainsFrom (dueFrom e) b xs)
+
+-- The call x inserts e: on a box that can be reached, an accepted delta with e among its inserts.
+-- Neither it nor any accepted delta among the calls xs after it removes e's hash.
+pub record Inserted (e : Entry) (b : Box) (x : Call) (xs : List Call) : Type 0 where
+  pub reachable : Reachable b
+  pub arguments : all typed (x ∷ xs) ≡ true
+  pub inserts : Among e (insertsOf x)
+  pub taken : step b x .0 ≡ Taken
+  pub stays : removesHash (e .hash) b (x ∷ xs) ≡ false
+
+-- What a drain right after the calls xs on b hands out under e's hash.
+pub record PromotedOnce (e : Entry) (b : Box) (xs : List Call) : Type 0 where
+  -- all of it: e, once, or nothing
+  pub whole : (round out : ℕ) → withHash (e .hash) (promotedBy (run b xs) (drain round out)) ≡ pick (promotes e b xs round out) (e ∷ []) []
+  -- the first accepted drain at a round at which e is due hands it out
+  pub first : (round out : ℕ) → step (run b xs) (drain round out) .0 ≡ Taken → dueFrom e ≤ round → drainsFrom (dueFrom e) b xs ≡ false
+      → withHash (e .hash) (promotedBy (run b xs) (drain round out)) ≡ e ∷ []
+  -- no later one does, whatever its round
+  pub later : (round out : ℕ) → drainsFrom (dueFrom e) b xs ≡ true → withHash (e .hash) (promotedBy (run b xs) (drain round out)) ≡ []
+  -- none at an earlier round does, in whatever order the rounds come
+  pub earlier : (round out : ℕ) → round < dueFrom e → withHash (e .hash) (promotedBy (run b xs) (drain round out)) ≡ []
+  -- a refused one hands nothing out at all, and counts for nothing: the box is as it was
+  pub refused : (round out : ℕ) → accepted (step (run b xs) (drain round out) .0) ≡ false
+      → (promotedBy (run b xs) (drain round out) ≡ []) × (step (run b xs) (drain round out) .1 ≡ run b xs)
+  -- where e is due past the last round that there is, none does
+  pub never : 2 ^ 32 ≤ dueFrom e → (round out : ℕ) → round < 2 ^ 32 → withHash (e .hash) (promotedBy (run b xs) (drain round out)) ≡ []
+  -- all drains among the calls together hand it out once if one of them was accepted at such a round, and else not at all
+  pub once : withHash (e .hash) (promotedIn b xs) ≡ pick (drainsFrom (dueFrom e) b xs) (e ∷ []) []
+  -- a drain writes what it hands out, and nothing else, whatever the output held
+  pub bytes : (round : ℕ) (out : List ℕ) → drainedBytes (run b xs) round out ≡ flat promotedBytes (promotedBy (run b xs) (drain round (length out)))
+
+-- whatever is called from the insert on
+abbrev pub Promotion : Type 0
+Promotion = (e : Entry) (b : Box) (x : Call) (xs : List Call) → Inserted e b x xs → PromotedOnce e b (x ∷ xs)

@@ -1,0 +1,242 @@
+-- An entry that isn't removed is handed out exactly once.
+-- Assumes nothing.
+use mathlib.Core.Path.{_≡_, refl, ap, _∙_}
+use mathlib.Core.Bool.{Bool, true, false, not, _&&_, _||_, and-false, or-assoc}
+use mathlib.Core.Bool.{or-false as or-none}
+use mathlib.Core.Option.{Option, none, some}
+use mathlib.Core.List.{List, [], _∷_, _++_}
+use Prim.Native.Nat.{ℕ, _<_}
+use native.Mathlib.Omega.{arith}
+use lib.ListN.{length, take, drop, length-replicate}
+use lib.Seq.{take-at}
+use lib.Dec.{leb, ltb, eqb}
+use borrow.Author.Tests.{le-leb, lt-leb}
+use Rattle.base.specs.Logic.{pick, all, elem, flat, keep, zeros, overlay}
+use Rattle.base.specs.ListLaws.{or-false, Among, keep-append, all-head, all-tail}
+use Rattle.base.specs.Maybe.{maybe}
+use Rattle.base.specs.Answers.{taken, _>>_, refuseIf}
+use Rattle.base.specs.Output.{fitting}
+use Rattle.base.specs.declared.Answer.the-variants.{Taken}
+use Rattle.base.specs.declared.Refusal.the-variants.{OutputFull}
+use Rattle.blake3.specs.Spec.{hash}
+use Rattle.cell_nursery.specs.Entries.{Entry, State, empty}
+use Rattle.cell_nursery.specs.Drain.{promotionDelay, promoted, promotedBytes, drained, drainBytes}
+use Rattle.cell_nursery.specs.Layout.{roomOf}
+use Rattle.cell_nursery.specs.Calls.{DrainedOut, drainedOut}
+use Rattle.journal.specs.Journal.{readJournal, readCall}
+use Rattle.journal_laws.specs.LoadLaws.{journal-loaded}
+use Rattle.node_box.specs.Box.{Box, Call, allocate, batch, delta, drain, get, shrink, serialize, lookup, listing, made, accepted, step, run, nurseryOf}
+use Rattle.node_box.specs.Journal.{rebuild}
+use Rattle.node_box.specs.Demand.{typed}
+use Rattle.demand3.specs.States.{nurseryAfter}
+use Rattle.demand3.specs.NurseryHeld.{NurseryHeld, laid-held, new-nursery, nursery-state, delta-taken, drain-outcome}
+use Rattle.demand3.specs.Holding.{answer-taken, nursery-taken, refused-same}
+use Rattle.promotion.specs.Promotion.{Reachable, fresh, rebuilt, called, deltaIn, insertsOf, removesOf, roundOf, promotedBy, promotedIn, drainedBytes, anyAccepted, drainsFrom, removesHash, withHash, dueFrom, promotes, Inserted, Promotion}
+use Rattle.promotion.specs.TrackLaws.{Tracked, track-delta, track-new, track-drain, track-promoted}
+
+-- ---- a box that can be reached holds a nursery's state
+record Held (b : Box) : Type 0 where
+  le : ℕ
+  lw : ℕ
+  lc : ℕ
+  state : State
+  held : NurseryHeld le lw lc (b .nursery) (b .entries) (b .waiting) (b .cells) state
+
+abbrev held-taken : {b : Box} (h : Held b) (x : Call) → typed x ≡ true → accepted (step b x .0) ≡ true → Held (step b x .1)
+held-taken {b} h x t e = record { le = h .le; lw = h .lw; lc = h .lc; state = nurseryAfter x (h .state); held = nursery-taken b (h .held) x t e }
+
+held-step : {b : Box} → Held b → (x : Call) → typed x ≡ true → Held (step b x .1)
+held-step {b} h x t = go (accepted (step b x .0)) refl
+  where
+    go : (ok : Bool) → accepted (step b x .0) ≡ ok → Held (step b x .1)
+    go true e = held-taken h x t e
+    go false e = rw (refused-same b (h .held) x e) h
+
+reachable-held : {b : Box} → Reachable b → Held b
+unfolding made rebuild readCall
+reachable-held (fresh next t es ws cs) = record { le = length es; lw = length ws; lc = length cs; state = empty; held = new-nursery es ws cs }
+reachable-held (rebuilt snapshot journal t es ws cs b) =
+    let l = journal-loaded hash (roomOf es ws cs) journal b in
+    let s = readJournal hash (roomOf es ws cs) journal .state in
+    record { le = length es; lw = length ws; lc = length cs; state = s; held = unfold roomOf in (laid-held es ws cs s [] (l .well) (l .room) (l .waits)) }
+reachable-held (called r x t) = held-step (reachable-held r) x t
+
+-- ---- the box follows the entry
+record Follows (e : Entry) (out : Bool) (b : Box) : Type 0 where
+  held : Held b
+  tracked : Tracked e out (held .state)
+
+-- a call that drains at a round at which the entry is due, and one that removes it
+abbrev drains : Entry → Call → Bool
+drains e x = maybe false (leb (dueFrom e)) (roundOf x)
+
+abbrev removes : Entry → Call → Bool
+removes e x = elem (e .hash) (removesOf x)
+
+module _ {e : Entry} {out : Bool} {b : Box} (f : Follows e out b) where
+  track-taken : (x : Call) → accepted (step b x .0) ≡ true → removes e x ≡ false → Tracked e (out || drains e x) (nurseryAfter x (f .held .state))
+  unfolding nurseryAfter roundOf deltaIn step
+  track-taken allocate a n = rw (or-none out) (f .tracked)
+  track-taken (batch words) a n = rw (or-none out) (f .tracked)
+  track-taken (delta id wide inserts removes items) a n =
+      let d = delta-taken (f .held .held) wide inserts removes items (answer-taken _ a) in
+      rw (or-none out, d .spelled) (track-delta e (d .change) (f .held .state) (d .accepted .new) (rw (d .spelled) at n) out (f .tracked))
+  track-taken (drain round o) a n = track-drain promotionDelay round e out (f .held .state) (f .tracked)
+  track-taken (get idx) a n = rw (or-none out) (f .tracked)
+  track-taken (shrink saved) a n = rw (or-none out) (f .tracked)
+  track-taken (serialize o) a n = rw (or-none out) (f .tracked)
+  track-taken (lookup k) a n = rw (or-none out) (f .tracked)
+  track-taken (listing o) a n = rw (or-none out) (f .tracked)
+
+  follow-step : (x : Call) → typed x ≡ true → (accepted (step b x .0) && removes e x) ≡ false → Follows e (out || (accepted (step b x .0) && drains e x)) (step b x .1)
+  follow-step x t n = go (accepted (step b x .0)) refl n
+    where
+      go : (ok : Bool) → accepted (step b x .0) ≡ ok → (ok && removes e x) ≡ false → Follows e (out || (ok && drains e x)) (step b x .1)
+      go true a m = record { held = held-taken (f .held) x t a; tracked = track-taken x a m }
+      go false a m = rw (refused-same b (f .held .held) x a, or-none out) f
+
+  -- what a call hands out under its hash
+  call-promotes : (x : Call) → withHash (e .hash) (promotedBy b x) ≡ pick (accepted (step b x .0) && drains e x && not out) (e ∷ []) []
+  unfolding promotedBy keep
+  call-promotes x = go (roundOf x) (accepted (step b x .0))
+    where
+      go : (o : Option ℕ) (ok : Bool)
+          → withHash (e .hash) (maybe [] (λ round. pick ok (promoted promotionDelay round (nurseryOf b)) []) o) ≡ pick (ok && maybe false (leb (dueFrom e)) o && not out) (e ∷ []) []
+      go none true = refl
+      go none false = refl
+      go (some round) true = rw (nursery-state (f .held .held)) (track-promoted promotionDelay round e out (f .held .state) (f .tracked) (f .held .held .well .hashes))
+      go (some round) false = refl
+
+follow-run : {e : Entry} {out : Bool} {b : Box} (xs : List Call) → all typed xs ≡ true → removesHash (e .hash) b xs ≡ false
+    → Follows e out b → Follows e (out || drainsFrom (dueFrom e) b xs) (run b xs)
+unfolding run anyAccepted
+follow-run {e} {out} {b} [] t n f = rw (or-none out) f
+follow-run {e} {out} {b} (x ∷ xs) t n f =
+    let m = or-false (accepted (step b x .0) && removes e x) (removesHash (e .hash) (step b x .1) xs) n in
+    rw (← or-assoc out (accepted (step b x .0) && drains e x) (drainsFrom (dueFrom e) (step b x .1) xs))
+    (follow-run xs (all-tail typed x xs t) (m .1) (follow-step f x (all-head typed x xs t) (m .0)))
+
+-- what calls hand out under its hash
+promote-run : {e : Entry} {out : Bool} {b : Box} (xs : List Call) → all typed xs ≡ true → removesHash (e .hash) b xs ≡ false
+    → Follows e out b → withHash (e .hash) (promotedIn b xs) ≡ pick (not out && drainsFrom (dueFrom e) b xs) (e ∷ []) []
+unfolding promotedIn anyAccepted keep
+promote-run {e} {out} {b} [] t n f = rw (and-false (not out))
+promote-run {e} {out} {b} (x ∷ xs) t n f =
+    let m = or-false (accepted (step b x .0) && removes e x) (removesHash (e .hash) (step b x .1) xs) n in
+    let rest = promote-run xs (all-tail typed x xs t) (m .1) (follow-step f x (all-head typed x xs t) (m .0)) in
+    keep-append (λ y. eqb (y .hash) (e .hash)) (promotedBy b x) (promotedIn (step b x .1) xs)
+    ∙ rw (call-promotes f x, rest) (go (accepted (step b x .0)) (drains e x) out (drainsFrom (dueFrom e) (step b x .1) xs))
+  where
+    go : (ok d o r : Bool) → pick (ok && d && not o) (e ∷ []) [] ++ pick (not (o || (ok && d)) && r) (e ∷ []) [] ≡ pick (not o && ((ok && d) || r)) (e ∷ []) []
+    go true true true r = refl
+    go true true false r = refl
+    go true false true r = refl
+    go true false false r = refl
+    go false d true r = refl
+    go false d false r = refl
+
+-- ---- from the insert on
+-- a call that inserts is a delta, and no drain
+undrained : {e : Entry} (x : Call) → Among e (insertsOf x) → roundOf x ≡ none
+unfolding roundOf deltaIn
+undrained allocate m = refl
+undrained (batch words) m = refl
+undrained (delta id wide inserts removes items) m = refl
+undrained (drain round out) m = elim m [ ]
+undrained (get idx) m = refl
+undrained (shrink saved) m = refl
+undrained (serialize out) m = refl
+undrained (lookup key) m = refl
+undrained (listing out) m = refl
+
+module _ {e : Entry} {b : Box} (h : Held b) where
+  track-inserted : (x : Call) → step b x .0 ≡ Taken → Among e (insertsOf x) → removes e x ≡ false → Tracked e false (nurseryAfter x (h .state))
+  unfolding deltaIn step nurseryAfter
+  track-inserted allocate a m n = elim m [ ]
+  track-inserted (batch words) a m n = elim m [ ]
+  track-inserted (delta id wide inserts removes items) a m n =
+      let d = delta-taken (h .held) wide inserts removes items a in
+      rw (d .spelled) (track-new e (d .change) (h .state) (d .accepted .new) (rw (d .spelled) at n) (h .held .gone) (h .held .waits) (rw (d .spelled) at m))
+  track-inserted (drain round out) a m n = elim m [ ]
+  track-inserted (get idx) a m n = elim m [ ]
+  track-inserted (shrink saved) a m n = elim m [ ]
+  track-inserted (serialize out) a m n = elim m [ ]
+  track-inserted (lookup key) a m n = elim m [ ]
+  track-inserted (listing out) a m n = elim m [ ]
+
+  follow-insert : (x : Call) → typed x ≡ true → step b x .0 ≡ Taken → Among e (insertsOf x) → removes e x ≡ false → Follows e false (step b x .1)
+  unfolding accepted
+  follow-insert x t a m n = record { held = held-taken h x t (rw a); tracked = track-inserted x a m n }
+
+-- ---- the bytes that a drain writes
+module _ {b : Box} (h : Held b) (round : ℕ) (out : List ℕ) where
+  bs : List ℕ
+  bs = drainBytes promotionDelay round (h .state)
+
+  abbrev draining : List ℕ → Bool → DrainedOut
+  draining y full = drainedOut (b .nursery) (b .waiting) y (refuseIf full OutputFull >> taken bs) (drained promotionDelay round (h .state))
+
+  fits : accepted (step b (drain round (length out)) .0) ≡ not (ltb (length out) (length bs))
+  unfolding step accepted fitting drainedOut bs
+  fits =
+      ap (λ (y : DrainedOut). accepted (y .result .answer)) (drain-outcome (h .held) round (zeros (length out)))
+      ∙ rw (length-replicate {A = ℕ} (length out) 0) (go (ltb (length out) (length bs)))
+    where
+      go : (full : Bool) → accepted (draining (zeros (length out)) full .result .answer) ≡ not full
+      go true = refl
+      go false = refl
+
+  writes : drainedBytes b round out ≡ flat promotedBytes (promotedBy b (drain round (length out)))
+  unfolding drainedBytes promotedBy roundOf fitting drainedOut overlay drainBytes flat bs
+  writes = rw (drain-outcome (h .held) round out, fits, nursery-state (h .held)) (go (ltb (length out) (length bs)))
+    where
+      go : (full : Bool) → take (draining out full .result .len) (draining out full .out) ≡ flat promotedBytes (pick (not full) (promoted promotionDelay round (h .state)) [])
+      go true = refl
+      go false = take-at bs (drop (length bs) out) (length bs) refl
+
+-- ---- the claim
+module _ {e : Entry} {b : Box} {x : Call} {xs : List Call} (i : Inserted e b x xs) where
+  stays : ((accepted (step b x .0) && removes e x) ≡ false) × (removesHash (e .hash) (step b x .1) xs ≡ false)
+  unfolding anyAccepted
+  stays = or-false (accepted (step b x .0) && removes e x) (removesHash (e .hash) (step b x .1) xs) (i .stays)
+
+  begins : Follows e false (step b x .1)
+  unfolding accepted
+  begins = follow-insert (reachable-held (i .reachable)) x (all-head typed x xs (i .arguments)) (i .taken) (i .inserts) (rw (i .taken) at (stays .0))
+
+  -- the insert is no drain
+  since : drainsFrom (dueFrom e) b (x ∷ xs) ≡ drainsFrom (dueFrom e) (step b x .1) xs
+  unfolding anyAccepted
+  since = rw (undrained x (i .inserts), and-false (accepted (step b x .0)))
+
+  follows : Follows e (drainsFrom (dueFrom e) b (x ∷ xs)) (run b (x ∷ xs))
+  unfolding run
+  follows = rw since (follow-run xs (all-tail typed x xs (i .arguments)) (stays .1) begins)
+
+  abbrev now : Box
+  now = run b (x ∷ xs)
+
+  whole : (round out : ℕ) → withHash (e .hash) (promotedBy now (drain round out)) ≡ pick (promotes e b (x ∷ xs) round out) (e ∷ []) []
+  unfolding roundOf
+  whole round out = call-promotes follows (drain round out)
+
+  earlier : (round out : ℕ) → round < dueFrom e → withHash (e .hash) (promotedBy now (drain round out)) ≡ []
+  earlier round out l = whole round out ∙ rw (lt-leb (dueFrom e) round l, and-false (accepted (step now (drain round out) .0)))
+
+  once : withHash (e .hash) (promotedIn b (x ∷ xs)) ≡ pick (drainsFrom (dueFrom e) b (x ∷ xs)) (e ∷ []) []
+  unfolding promotedIn promotedBy
+  once = rw (undrained x (i .inserts), since) (promote-run xs (all-tail typed x xs (i .arguments)) (stays .1) begins)
+
+pub promotion : Promotion
+unfolding accepted promotedBy roundOf
+promotion e b x xs i =
+    record {
+      whole = whole i;
+      first = λ round out a l n. whole i round out ∙ rw (a, le-leb (dueFrom e) round l, n);
+      later = λ round out n. whole i round out ∙ rw (n, and-false (accepted (step (run b (x ∷ xs)) (drain round out) .0) && leb (dueFrom e) round));
+      earlier = earlier i;
+      refused = λ round out a. (rw a, refused-same (run b (x ∷ xs)) (follows i .held .held) (drain round out) a);
+      never = λ l round out u. earlier i round out (omega arith);
+      once = once i;
+      bytes = writes (follows i .held);
+    }

@@ -1,0 +1,1 @@
+// An entry is handed out exactly once. Laws, and no code.
