@@ -325,6 +325,8 @@ impl CellNursery {
     }
 
     /// Hands out the waiting cells that are due at a round, by born round, then arrival; they stay as entries and wait no longer.
+    /// In a nursery that was made or read in, an entry that isn't removed is handed out once: by the first drain at a round of at least its born
+    /// round plus [`PROMOTION_DELAY_ROUNDS`].
     pub fn drain_promotable(&mut self, round: u32, mut f: impl FnMut(HashBytes, Idx, &[u8])) {
         let due = self.due(round);
         let mut out = vec![0; 42 * due + self.cell_bytes().min(due.saturating_mul(65_535))];
