@@ -3,7 +3,7 @@
 use mathlib.Core.Path.{_≡_}
 use mathlib.Core.Bool.{Bool, true, false, not, _&&_, _||_}
 use mathlib.Core.Option.{Option, none, some}
-use mathlib.Core.List.{List, [], _∷_, _++_}
+use mathlib.Core.List.{List, [], _∷_, _++_, map}
 use Prim.Native.Nat.{ℕ, _+_, _^_, _≤_, _<_}
 use lib.ListN.{length, take}
 use lib.Dec.{leb, ltb, eqb}
@@ -124,10 +124,12 @@ pub record PromotedOnce (e : Entry) (b : Box) (xs : List Call) : Type 0 where
   -- where e is due past the last round that there is, none does
   pub never : 2 ^ 32 ≤ dueFrom e → (round out : ℕ) → round < 2 ^ 32 → withHash (e .hash) (promotedBy (run b xs) (drain round out)) ≡ []
   -- all drains among the calls together hand it out once if one of them was accepted at such a round, and else not at all
-  pub once : withHash (e .hash) (promotedIn b xs) ≡ pick (drainsFrom (dueFrom e) b xs) (e ∷ []) []
+  pub together : withHash (e .hash) (promotedIn b xs) ≡ pick (drainsFrom (dueFrom e) b xs) (e ∷ []) []
   -- a drain writes what it hands out, and nothing else, whatever the output held
   pub bytes : (round : ℕ) (out : List ℕ) → drainedBytes (run b xs) round out ≡ flat promotedBytes (promotedBy (run b xs) (drain round (length out)))
 
--- whatever is called from the insert on
-abbrev pub Promotion : Type 0
-Promotion = (e : Entry) (b : Box) (x : Call) (xs : List Call) → Inserted e b x xs → PromotedOnce e b (x ∷ xs)
+pub record Promotion : Type 0 where
+  -- an entry that isn't removed is handed out once, whatever is called from its insert on
+  pub once : (e : Entry) (b : Box) (x : Call) (xs : List Call) → Inserted e b x xs → PromotedOnce e b (x ∷ xs)
+  -- under a hash that has no entry, before its insert or after its remove, nothing is
+  pub absent : (h : ℕ) (b : Box) → elem h (map (λ e. e .hash) (nurseryOf b .entries)) ≡ false → (round out : ℕ) → withHash h (promotedBy b (drain round out)) ≡ []

@@ -4,7 +4,7 @@ use mathlib.Core.Path.{_≡_, refl, ap, _∙_}
 use mathlib.Core.Bool.{Bool, true, false, not, _&&_, _||_, and-false, or-assoc}
 use mathlib.Core.Bool.{or-false as or-none}
 use mathlib.Core.Option.{Option, none, some}
-use mathlib.Core.List.{List, [], _∷_, _++_}
+use mathlib.Core.List.{List, [], _∷_, _++_, map}
 use Prim.Native.Nat.{ℕ, _<_}
 use native.Mathlib.Omega.{arith}
 use lib.ListN.{length, take, drop, length-replicate}
@@ -31,8 +31,8 @@ use Rattle.node_box.specs.Demand.{typed}
 use Rattle.demand3.specs.States.{nurseryAfter}
 use Rattle.demand3.specs.NurseryHeld.{NurseryHeld, laid-held, new-nursery, nursery-state, delta-taken, drain-outcome}
 use Rattle.demand3.specs.Holding.{answer-taken, nursery-taken, refused-same}
-use Rattle.promotion.specs.Promotion.{Reachable, fresh, rebuilt, called, deltaIn, insertsOf, removesOf, roundOf, promotedBy, promotedIn, drainedBytes, anyAccepted, drainsFrom, removesHash, withHash, dueFrom, promotes, Inserted, Promotion}
-use Rattle.promotion.specs.TrackLaws.{Tracked, track-delta, track-new, track-drain, track-promoted}
+use Rattle.promotion.specs.Promotion.{Reachable, fresh, rebuilt, called, deltaIn, insertsOf, removesOf, roundOf, promotedBy, promotedIn, drainedBytes, anyAccepted, drainsFrom, removesHash, withHash, dueFrom, promotes, Inserted, PromotedOnce, Promotion}
+use Rattle.promotion.specs.TrackLaws.{Tracked, track-delta, track-new, track-drain, track-promoted, none-promoted}
 
 -- ---- a box that can be reached holds a nursery's state
 record Held (b : Box) : Type 0 where
@@ -223,20 +223,28 @@ module _ {e : Entry} {b : Box} {x : Call} {xs : List Call} (i : Inserted e b x x
   earlier : (round out : ℕ) → round < dueFrom e → withHash (e .hash) (promotedBy now (drain round out)) ≡ []
   earlier round out l = whole round out ∙ rw (lt-leb (dueFrom e) round l, and-false (accepted (step now (drain round out) .0)))
 
-  once : withHash (e .hash) (promotedIn b (x ∷ xs)) ≡ pick (drainsFrom (dueFrom e) b (x ∷ xs)) (e ∷ []) []
+  together : withHash (e .hash) (promotedIn b (x ∷ xs)) ≡ pick (drainsFrom (dueFrom e) b (x ∷ xs)) (e ∷ []) []
   unfolding promotedIn promotedBy
-  once = rw (undrained x (i .inserts), since) (promote-run xs (all-tail typed x xs (i .arguments)) (stays .1) begins)
+  together = rw (undrained x (i .inserts), since) (promote-run xs (all-tail typed x xs (i .arguments)) (stays .1) begins)
+
+  once : PromotedOnce e b (x ∷ xs)
+  unfolding accepted promotedBy roundOf
+  once =
+      record {
+        whole = whole;
+        first = λ round out a l n. whole round out ∙ rw (a, le-leb (dueFrom e) round l, n);
+        later = λ round out n. whole round out ∙ rw (n, and-false (accepted (step now (drain round out) .0) && leb (dueFrom e) round));
+        earlier = earlier;
+        refused = λ round out a. (rw a, refused-same now (follows .held .held) (drain round out) a);
+        never = λ l round out u. earlier round out (omega arith);
+        together = together;
+        bytes = writes (follows .held);
+      }
 
 pub promotion : Promotion
-unfolding accepted promotedBy roundOf
-promotion e b x xs i =
-    record {
-      whole = whole i;
-      first = λ round out a l n. whole i round out ∙ rw (a, le-leb (dueFrom e) round l, n);
-      later = λ round out n. whole i round out ∙ rw (n, and-false (accepted (step (run b (x ∷ xs)) (drain round out) .0) && leb (dueFrom e) round));
-      earlier = earlier i;
-      refused = λ round out a. (rw a, refused-same (run b (x ∷ xs)) (follows i .held .held) (drain round out) a);
-      never = λ l round out u. earlier i round out (omega arith);
-      once = once i;
-      bytes = writes (follows i .held);
-    }
+unfolding promotedBy roundOf keep
+promotion = record { once = λ e b x xs i. once i; absent = λ h b a round out. go h b a round (accepted (step b (drain round out) .0)) }
+  where
+    go : (h : ℕ) (b : Box) → elem h (map (λ e. e .hash) (nurseryOf b .entries)) ≡ false → (round : ℕ) (ok : Bool) → withHash h (pick ok (promoted promotionDelay round (nurseryOf b)) []) ≡ []
+    go h b a round true = none-promoted promotionDelay round h (nurseryOf b) a
+    go h b a round false = refl

@@ -206,3 +206,17 @@ module _ (delay round : ℕ) (e : Entry) (out : Bool) (s : State) (t : Tracked e
       go true false q = refl
       go false true q = rw (q, alone)
       go false false q = rw q
+
+-- ---- a hash that has no entry
+pub none-promoted : (delay round h : ℕ) (s : State) → elem h (hashesOf (s .entries)) ≡ false → withHash h (promoted delay round s) ≡ []
+unfolding promoted named flat keep
+none-promoted delay round h s a = go (keep (due delay round) (s .waiting))
+  where
+    none-named : (w : Waiting) → withHash h (named (s .entries) w) ≡ []
+    none-named w =
+        let q : Entry → Bool = λ e. eqb (e .hash) (w .hash) && eqb (e .born) (w .born) in
+        keep-swap (λ e. eqb (e .hash) h) q (s .entries) ∙ ap (λ (es : List Entry). keep q es) (keep-absent (λ e. e .hash) h (s .entries) a)
+
+    go : (ws : List Waiting) → withHash h (flat (named (s .entries)) ws) ≡ []
+    go [] = refl
+    go (w ∷ ws) = keep-append (λ e. eqb (e .hash) h) (named (s .entries) w) (flat (named (s .entries)) ws) ∙ rw (none-named w, go ws)
