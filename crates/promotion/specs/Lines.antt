@@ -2,7 +2,7 @@
 -- Assumes nothing.
 use mathlib.Core.Path.{_≡_, refl}
 use mathlib.Core.Bool.{false, not, true≢false}
-use mathlib.Core.List.{List, [], _∷_}
+use mathlib.Core.List.{List, [], _∷_, _++_}
 use Prim.Native.Nat.{ℕ, _-_, _^_}
 use lib.ListN.{replicate}
 use Rattle.base.specs.Logic.{pick, zeros}
@@ -13,7 +13,7 @@ use Rattle.cell_nursery.specs.Items.{itemBytes}
 use Rattle.cell_nursery.specs.Drain.{promotedBytes}
 use Rattle.node_box.specs.Box.{Box, Call, delta, drain, made, step, run}
 use Rattle.node_box.specs.Open.{evaluation}
-use Rattle.promotion.specs.Promotion.{fresh, deltaIn, roundOf, promotedBy, promotedIn, drainedBytes, anyAccepted, withHash, promotes, Inserted}
+use Rattle.promotion.specs.Promotion.{fresh, deltaIn, roundOf, promotedBy, promotedIn, drainInto, anyAccepted, withHash, promotes, Inserted}
 
 -- a fresh box with room for two entries and two cell bytes
 abbrev box : Box
@@ -46,10 +46,11 @@ abbrev answer : Box → Call → ℕ
 answer b x = answerNumber (step b x .0)
 
 pub record Lines : Type 0 where
-  -- at 104 nothing, at 105 the entry, in 44 bytes, whatever the output held
+  -- at 104 nothing, at 105 the entry, in 44 bytes at the front of the output
   early : handed (put 5) [] 104 ≡ []
   due : handed (put 5) [] 105 ≡ entry 5 ∷ []
-  due-bytes : drainedBytes (after (put 5) []) 105 (replicate 50 255) ≡ promotedBytes (entry 5)
+  due-bytes : drainInto (after (put 5) []) 105 (replicate 50 255) .out ≡ promotedBytes (entry 5) ++ replicate 6 255
+  due-length : drainInto (after (put 5) []) 105 (replicate 50 255) .result .len ≡ 44
   -- not again: at the same round, a later one, an earlier one
   again : handed (put 5) (drain 105 44 ∷ []) 105 ≡ []
   again-later : handed (put 5) (drain 105 44 ∷ []) 4000 ≡ []
@@ -58,7 +59,7 @@ pub record Lines : Type 0 where
   waits : handed (put 5) (drain 104 44 ∷ []) 105 ≡ entry 5 ∷ []
   short : answer (after (put 5) []) (drain 105 43) ≡ 15
   waits-refused : handed (put 5) (drain 105 43 ∷ []) 105 ≡ entry 5 ∷ []
-  short-bytes : drainedBytes (after (put 5) []) 105 (zeros 43) ≡ []
+  short-bytes : drainInto (after (put 5) []) 105 (replicate 43 255) .out ≡ replicate 43 255
   -- rounds go backwards and forwards again
   backwards : handed (put 5) (drain 99 44 ∷ drain 50 44 ∷ []) 200 ≡ entry 5 ∷ []
   -- another insert of the hash is refused with 12, and the entry waits on
@@ -86,12 +87,13 @@ pub record Lines : Type 0 where
   passing-none : handed passing [] 105 ≡ []
 
 pub lines : Lines
-unfolding evaluation deltaIn roundOf promotedBy promotedIn drainedBytes anyAccepted
+unfolding evaluation deltaIn roundOf promotedBy promotedIn anyAccepted
 lines =
     record {
       early = refl;
       due = refl;
       due-bytes = refl;
+      due-length = refl;
       again = refl;
       again-later = refl;
       again-back = refl;

@@ -5,9 +5,9 @@ use mathlib.Core.Bool.{Bool, true, false, not, _&&_, _||_}
 use mathlib.Core.Option.{Option, none, some}
 use mathlib.Core.List.{List, [], _∷_, _++_, map}
 use Prim.Native.Nat.{ℕ, _+_, _^_, _≤_, _<_}
-use lib.ListN.{length, take}
+use lib.ListN.{length}
 use lib.Dec.{leb, ltb, eqb}
-use Rattle.base.specs.Logic.{pick, all, elem, flat, keep}
+use Rattle.base.specs.Logic.{pick, all, elem, flat, keep, overlay}
 use Rattle.base.specs.ListLaws.{Among}
 use Rattle.base.specs.Maybe.{maybe}
 use Rattle.base.specs.declared.Answer.the-variants.{Taken}
@@ -15,7 +15,7 @@ use Rattle.blake3.specs.Spec.{hash}
 use Rattle.cell_nursery.specs.Entries.{Entry}
 use Rattle.cell_nursery.specs.Items.{Delta, deltaOf}
 use Rattle.cell_nursery.specs.Drain.{promotionDelay, promoted, promotedBytes}
-use Rattle.cell_nursery.specs.Calls.{lengthWidth, drainCall}
+use Rattle.cell_nursery.specs.Calls.{DrainedOut, lengthWidth, drainCall}
 use Rattle.node_box.specs.Box.{Box, Call, allocate, batch, delta, drain, get, shrink, serialize, lookup, listing, made, accepted, step, run, nurseryOf}
 use Rattle.node_box.specs.Journal.{rebuild}
 use Rattle.node_box.specs.Demand.{typed}
@@ -66,11 +66,9 @@ unfoldable pub promotedIn : Box → List Call → List Entry
 promotedIn b [] = []
 promotedIn b (x ∷ xs) = promotedBy b x ++ promotedIn (step b x .1) xs
 
--- the bytes that a drain at a round writes into an output
-unfoldable pub drainedBytes : Box → ℕ → List ℕ → List ℕ
-drainedBytes b round out =
-    let r = drainCall promotionDelay (b .nursery) (b .entries) (b .waiting) (b .cells) round out in
-    take (r .result .len) (r .out)
+-- the call of a drain at a round into an output of any content
+abbrev pub drainInto : Box → ℕ → List ℕ → DrainedOut
+drainInto b round out = drainCall promotionDelay (b .nursery) (b .entries) (b .waiting) (b .cells) round out
 
 -- one of the calls is accepted and passes a test
 unfoldable pub anyAccepted : (Call → Bool) → Box → List Call → Bool
@@ -125,8 +123,9 @@ pub record PromotedOnce (e : Entry) (b : Box) (xs : List Call) : Type 0 where
   pub never : 2 ^ 32 ≤ dueFrom e → (round out : ℕ) → round < 2 ^ 32 → withHash (e .hash) (promotedBy (run b xs) (drain round out)) ≡ []
   -- all drains among the calls together hand it out once if one of them was accepted at such a round, and else not at all
   pub together : withHash (e .hash) (promotedIn b xs) ≡ pick (drainsFrom (dueFrom e) b xs) (e ∷ []) []
-  -- a drain writes what it hands out, and nothing else, whatever the output held
-  pub bytes : (round : ℕ) (out : List ℕ) → drainedBytes (run b xs) round out ≡ flat promotedBytes (promotedBy (run b xs) (drain round (length out)))
+  -- in bytes: it writes what it hands out over the front of its output, and tells how many bytes that is; the rest of the output stays
+  pub bytes : (round : ℕ) (out : List ℕ) → let written = flat promotedBytes (promotedBy (run b xs) (drain round (length out))) in
+      (drainInto (run b xs) round out .result .len ≡ length written) × (drainInto (run b xs) round out .out ≡ overlay written out)
 
 pub record Promotion : Type 0 where
   -- an entry that isn't removed is handed out once, whatever is called from its insert on

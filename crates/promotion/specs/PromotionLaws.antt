@@ -7,8 +7,7 @@ use mathlib.Core.Option.{Option, none, some}
 use mathlib.Core.List.{List, [], _∷_, _++_, map}
 use Prim.Native.Nat.{ℕ, _<_}
 use native.Mathlib.Omega.{arith}
-use lib.ListN.{length, take, drop, length-replicate}
-use lib.Seq.{take-at}
+use lib.ListN.{length, length-replicate}
 use lib.Dec.{leb, ltb, eqb}
 use borrow.Author.Tests.{le-leb, lt-leb}
 use Rattle.base.specs.Logic.{pick, all, elem, flat, keep, zeros, overlay}
@@ -31,7 +30,7 @@ use Rattle.node_box.specs.Demand.{typed}
 use Rattle.demand3.specs.States.{nurseryAfter}
 use Rattle.demand3.specs.NurseryHeld.{NurseryHeld, laid-held, new-nursery, nursery-state, delta-taken, drain-outcome}
 use Rattle.demand3.specs.Holding.{answer-taken, nursery-taken, refused-same}
-use Rattle.promotion.specs.Promotion.{Reachable, fresh, rebuilt, called, deltaIn, insertsOf, removesOf, roundOf, promotedBy, promotedIn, drainedBytes, anyAccepted, drainsFrom, removesHash, withHash, dueFrom, promotes, Inserted, PromotedOnce, Promotion}
+use Rattle.promotion.specs.Promotion.{Reachable, fresh, rebuilt, called, deltaIn, insertsOf, removesOf, roundOf, promotedBy, promotedIn, drainInto, anyAccepted, drainsFrom, removesHash, withHash, dueFrom, promotes, Inserted, PromotedOnce, Promotion}
 use Rattle.promotion.specs.TrackLaws.{Tracked, track-delta, track-new, track-drain, track-promoted, none-promoted}
 
 -- ---- a box that can be reached holds a nursery's state
@@ -186,13 +185,15 @@ module _ {b : Box} (h : Held b) (round : ℕ) (out : List ℕ) where
       go true = refl
       go false = refl
 
-  writes : drainedBytes b round out ≡ flat promotedBytes (promotedBy b (drain round (length out)))
-  unfolding drainedBytes promotedBy roundOf fitting drainedOut overlay drainBytes flat bs
+  writes : let written = flat promotedBytes (promotedBy b (drain round (length out))) in
+      (drainInto b round out .result .len ≡ length written) × (drainInto b round out .out ≡ overlay written out)
+  unfolding promotedBy roundOf fitting drainedOut overlay drainBytes flat bs
   writes = rw (drain-outcome (h .held) round out, fits, nursery-state (h .held)) (go (ltb (length out) (length bs)))
     where
-      go : (full : Bool) → take (draining out full .result .len) (draining out full .out) ≡ flat promotedBytes (pick (not full) (promoted promotionDelay round (h .state)) [])
-      go true = refl
-      go false = take-at bs (drop (length bs) out) (length bs) refl
+      go : (full : Bool) → let written = flat promotedBytes (pick (not full) (promoted promotionDelay round (h .state)) []) in
+          (draining out full .result .len ≡ length written) × (draining out full .out ≡ overlay written out)
+      go true = (refl, refl)
+      go false = (refl, refl)
 
 -- ---- the claim
 module _ {e : Entry} {b : Box} {x : Call} {xs : List Call} (i : Inserted e b x xs) where
