@@ -36,7 +36,7 @@ fn drained(n: &mut CellNursery, round: u32, out: usize) -> Result<Vec<(HashBytes
     Ok(PromotedCell::all(&out[..len]).map(|cell| (cell.hash, cell.idx, cell.data.to_vec())).collect())
 }
 
-/// What the drain at a round hands out, after drains at others.
+/// How many cells the drain at a round hands out, after drains at others.
 fn after(born_round: u32, rounds: &[u32], round: u32) -> usize {
     let mut n = holding(born_round);
     for r in rounds {

@@ -13,7 +13,7 @@ use Rattle.cell_nursery.specs.Items.{itemBytes}
 use Rattle.cell_nursery.specs.Drain.{promotedBytes}
 use Rattle.node_box.specs.Box.{Box, Call, delta, drain, made, step, run}
 use Rattle.node_box.specs.Open.{evaluation}
-use Rattle.promotion.specs.Promotion.{fresh, deltaIn, roundOf, promotedBy, promotedIn, drainInto, anyAccepted, withHash, promotes, Inserted}
+use Rattle.promotion.specs.Promotion.{fresh, lentDelta, roundOf, promotedBy, promotedIn, drainInto, anyAccepted, withHash, promotes, Inserted}
 
 -- a fresh box with room for two entries and two cell bytes
 abbrev box : Box
@@ -87,7 +87,7 @@ pub record Lines : Type 0 where
   passing-none : handed passing [] 105 ≡ []
 
 pub lines : Lines
-unfolding evaluation deltaIn roundOf promotedBy promotedIn anyAccepted
+unfolding evaluation lentDelta roundOf promotedBy promotedIn anyAccepted
 lines =
     record {
       early = refl;

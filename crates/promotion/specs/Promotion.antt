@@ -27,23 +27,23 @@ pub data Reachable : Box → Type 0 where
   called : {b : Box} → Reachable b → (x : Call) → typed x ≡ true → Reachable (step b x .1)
 
 -- the delta that a call lends; none where it lends none
-unfoldable pub deltaIn : Call → Option Delta
-deltaIn allocate = none
-deltaIn (batch words) = none
-deltaIn (delta id wide inserts removes items) = deltaOf (lengthWidth wide) inserts removes items
-deltaIn (drain round out) = none
-deltaIn (get idx) = none
-deltaIn (shrink saved) = none
-deltaIn (serialize out) = none
-deltaIn (lookup h) = none
-deltaIn (listing out) = none
+unfoldable pub lentDelta : Call → Option Delta
+lentDelta allocate = none
+lentDelta (batch words) = none
+lentDelta (delta id wide inserts removes items) = deltaOf (lengthWidth wide) inserts removes items
+lentDelta (drain round out) = none
+lentDelta (get idx) = none
+lentDelta (shrink saved) = none
+lentDelta (serialize out) = none
+lentDelta (lookup h) = none
+lentDelta (listing out) = none
 
 -- the entries that it is to insert, and the hashes that it is to remove
 abbrev pub insertsOf : Call → List Entry
-insertsOf x = maybe [] (λ d. d .inserts) (deltaIn x)
+insertsOf x = maybe [] (λ d. d .inserts) (lentDelta x)
 
 abbrev pub removesOf : Call → List ℕ
-removesOf x = maybe [] (λ d. d .removes) (deltaIn x)
+removesOf x = maybe [] (λ d. d .removes) (lentDelta x)
 
 -- the round of a drain; none where a call drains nothing
 unfoldable pub roundOf : Call → Option ℕ

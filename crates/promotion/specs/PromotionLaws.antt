@@ -30,7 +30,7 @@ use Rattle.node_box.specs.Demand.{typed}
 use Rattle.demand3.specs.States.{nurseryAfter}
 use Rattle.demand3.specs.NurseryHeld.{NurseryHeld, laid-held, new-nursery, nursery-state, delta-taken, drain-outcome}
 use Rattle.demand3.specs.Holding.{answer-taken, nursery-taken, refused-same}
-use Rattle.promotion.specs.Promotion.{Reachable, fresh, rebuilt, called, deltaIn, insertsOf, removesOf, roundOf, promotedBy, promotedIn, drainInto, anyAccepted, drainsFrom, removesHash, withHash, dueFrom, promotes, Inserted, PromotedOnce, Promotion}
+use Rattle.promotion.specs.Promotion.{Reachable, fresh, rebuilt, called, lentDelta, insertsOf, removesOf, roundOf, promotedBy, promotedIn, drainInto, anyAccepted, drainsFrom, removesHash, withHash, dueFrom, promotes, Inserted, PromotedOnce, Promotion}
 use Rattle.promotion.specs.TrackLaws.{Tracked, track-delta, track-new, track-drain, track-promoted, none-promoted}
 
 -- ---- a box that can be reached holds a nursery's state
@@ -74,7 +74,7 @@ removes e x = elem (e .hash) (removesOf x)
 
 module _ {e : Entry} {out : Bool} {b : Box} (f : Follows e out b) where
   track-taken : (x : Call) → accepted (step b x .0) ≡ true → removes e x ≡ false → Tracked e (out || drains e x) (nurseryAfter x (f .held .state))
-  unfolding nurseryAfter roundOf deltaIn step
+  unfolding nurseryAfter roundOf lentDelta step
   track-taken allocate a n = rw (or-none out) (f .tracked)
   track-taken (batch words) a n = rw (or-none out) (f .tracked)
   track-taken (delta id wide inserts removes items) a n =
@@ -137,7 +137,7 @@ promote-run {e} {out} {b} (x ∷ xs) t n f =
 -- ---- from the insert on
 -- a call that inserts is a delta, and no drain
 undrained : {e : Entry} (x : Call) → Among e (insertsOf x) → roundOf x ≡ none
-unfolding roundOf deltaIn
+unfolding roundOf lentDelta
 undrained allocate m = refl
 undrained (batch words) m = refl
 undrained (delta id wide inserts removes items) m = refl
@@ -150,7 +150,7 @@ undrained (listing out) m = refl
 
 module _ {e : Entry} {b : Box} (h : Held b) where
   track-inserted : (x : Call) → step b x .0 ≡ Taken → Among e (insertsOf x) → removes e x ≡ false → Tracked e false (nurseryAfter x (h .state))
-  unfolding deltaIn step nurseryAfter
+  unfolding lentDelta step nurseryAfter
   track-inserted allocate a m n = elim m [ ]
   track-inserted (batch words) a m n = elim m [ ]
   track-inserted (delta id wide inserts removes items) a m n =
