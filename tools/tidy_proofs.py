@@ -20,6 +20,7 @@ def tidy(text):
     text = re.sub(r"(?m)^-- src/\S+:\d+:\d+\n", "", text)
     lines = text.splitlines()
     body = "\n".join(line for line in lines if not line.startswith("use "))
+    body = re.sub(r"(?m)(^|\s)--(\s.*)?$", "", body)  # a comment uses nothing
     out, seen = [], set()
     for line in lines:
         m = re.match(r"use (\S+)\.\{(.*)\}$", line)

@@ -1,19 +1,21 @@
 -- What draining hands out: the first waiting rows, each with the entry of its hash where the rounds agree.
 -- Assumes nothing.
 use mathlib.Core.Path.{_≡_, refl, sym, ap, fun-ext, _∙_}
-use mathlib.Core.Bool.{Bool, true, not}
-use mathlib.Core.List.{List, [], _∷_, map}
+use mathlib.Core.Bool.{Bool, true, false, not, _&&_}
+use mathlib.Core.List.{List, [], _∷_, _++_, map}
 use Prim.Native.Nat.{ℕ, suc, _+_, _-_, _≤_, _<_}
 use native.Mathlib.Omega.{arith}
 use native.Mathlib.Decide.{decLe, ℕ-discrete}
 use lib.ListN.{take, drop}
 use lib.Dec.{leb, ltb, eqb}
-use borrow.Author.Tests.{lt-ltb, le-ltb, le-leb, lt-leb, eq-eqb, ne-eqb}
-use Rattle.base.specs.Logic.{pick, keep, ascendingFrom, sortedFrom}
+use borrow.Author.Tests.{lt-ltb, le-ltb, le-leb, lt-leb, eq-eqb, ne-eqb, eqb-true}
+use Rattle.base.specs.Logic.{pick, elem, flat, keep, ascendingFrom, sortedFrom}
 use Rattle.base.specs.Maybe.{maybe}
-use Rattle.base.specs.Laws.{ascending-head, ascending-tail}
+use Rattle.base.specs.Laws.{and-left, ascending-head, ascending-tail}
+use Rattle.base.specs.ListLaws.{keep-append, keep-swap, keep-whole, keep-empty, all-kept}
 use Rattle.rows.specs.Keys.{place}
 use Rattle.rows.specs.KeyLaws.{keep-below, keep-from}
+use Rattle.rows.specs.RowLaws.{keep-absent}
 use Rattle.cell_nursery.specs.Entries.{Entry, Waiting}
 use Rattle.cell_nursery.specs.Drain.{due, named}
 use Rattle.cell_nursery.specs.EntryLaws.{entryAt}
@@ -74,3 +76,39 @@ named-entryAt w lo (e ∷ es) o =
       | yes m ↦ rw (eq-eqb (e .hash) (w .hash) m, named-above w (suc (e .hash)) es (omega arith) r)
       | no m ↦ rw (ne-eqb (e .hash) (w .hash) m) (named-entryAt w (suc (e .hash)) es r)
     ]
+
+-- ---- under a hash
+module _ (h : ℕ) (es : List Entry) where
+  -- a row names entries of its own hash
+  named-hash : (w : Waiting) → keep (λ e. eqb (e .hash) h) (named es w) ≡ pick (eqb (w .hash) h) (named es w) []
+  unfolding named
+  named-hash w =
+      let q : Entry → Bool = λ e. eqb (e .hash) (w .hash) && eqb (e .born) (w .born) in
+      let own : (e : Entry) → q e ≡ true → e .hash ≡ w .hash = λ e t. eqb-true (e .hash) (w .hash) (and-left _ _ t) in
+      elim (ℕ-discrete (w .hash) h) [
+        | yes m ↦ rw (eq-eqb (w .hash) h m) (keep-whole (λ e. eqb (e .hash) h) q (λ e t. eq-eqb (e .hash) h (own e t ∙ m)) (keep q es) (all-kept q es))
+        | no m ↦ rw (ne-eqb (w .hash) h m) (keep-empty (λ e. eqb (e .hash) h) q (λ e t. ne-eqb (e .hash) h (λ z. m (sym (own e t) ∙ z))) (keep q es) (all-kept q es))
+      ]
+
+  -- so what rows name under the hash, the hash's rows name
+  pub named-rows : (ws : List Waiting) → keep (λ e. eqb (e .hash) h) (flat (named es) ws) ≡ flat (named es) (keep (λ w. eqb (w .hash) h) ws)
+  unfolding flat keep
+  named-rows [] = refl
+  named-rows (w ∷ ws) = keep-append (λ e. eqb (e .hash) h) (named es w) (flat (named es) ws) ∙ rw (named-hash w, named-rows ws) (go (eqb (w .hash) h) (keep (λ x. eqb (x .hash) h) ws))
+    where
+      go : (b : Bool) (k : List Waiting) → pick b (named es w) [] ++ flat (named es) k ≡ flat (named es) (pick b (w ∷ k) k)
+      go true k = refl
+      go false k = refl
+
+  -- and under one that has no entry nothing is named
+  module _ (absent : elem h (map (λ e. e .hash) es) ≡ false) where
+    none-named : (w : Waiting) → keep (λ e. eqb (e .hash) h) (named es w) ≡ []
+    unfolding named keep
+    none-named w =
+        let q : Entry → Bool = λ e. eqb (e .hash) (w .hash) && eqb (e .born) (w .born) in
+        keep-swap (λ e. eqb (e .hash) h) q es ∙ ap (λ (l : List Entry). keep q l) (keep-absent (λ e. e .hash) h es absent)
+
+    pub named-absent : (ws : List Waiting) → keep (λ e. eqb (e .hash) h) (flat (named es) ws) ≡ []
+    unfolding flat keep
+    named-absent [] = refl
+    named-absent (w ∷ ws) = keep-append (λ e. eqb (e .hash) h) (named es w) (flat (named es) ws) ∙ rw (none-named w, named-absent ws)

@@ -3,7 +3,7 @@
 -- Assumes nothing.
 use mathlib.Core.Path.{_≡_, refl, sym, ap, subst, _∙_}
 use mathlib.Core.Bool.{Bool, true, false, not}
-use mathlib.Core.Option.{none, some}
+use mathlib.Core.Option.{none}
 use mathlib.Core.List.{List, [], _∷_, _++_, map, append-assoc, map-append, map-map}
 use mathlib.Core.List.{List·Permᴰ as Reordered, List·Permᴰ·nil as order-nil, List·Permᴰ·cons as order-cons, List·Permᴰ·swap as order-swap, List·Permᴰ·trans as order-trans}
 use mathlib.Core.List.{Permᴰ·symm, Permᴰ·append-right, Permᴰ·middle, Permᴰ·map}
@@ -18,6 +18,7 @@ use Rattle.base.specs.Laws.{and-left, and-right, and-both, ascending-head, asce
 use Rattle.base.specs.ListLaws.{or-false, Some, here, there, keep-append, keep-order, length-order, repeated-order, eqb-sym}
 use Rattle.base.specs.SumLaws.{keep-map}
 use Rattle.rows.specs.Keys.{putRows}
+use Rattle.rows.specs.RowLaws.{keep-absent}
 use Rattle.cell_nursery.specs.Entries.{Entry, Waiting, State, empty, putEntry, putWaiting, insert, remove}
 use Rattle.cell_nursery.specs.Items.{Delta}
 use Rattle.cell_nursery.specs.Delta.{present, used, stateAfter}
@@ -177,6 +178,17 @@ module _ (gone : List Waiting) (s : State) (w : Waits gone s) where
       repeated-order (Permᴰ·map (λ x. x .hash) w) ∙ ap repeated (map-map (λ x. x .hash) waiterFor (s .entries)) in
       once-left (map (λ x. x .hash) (s .waiting)) (map (λ x. x .hash) gone)
       (ap repeated (sym (map-append (λ x. x .hash) (s .waiting) gone)) ∙ all-rows ∙ ascending-once 0 (map (λ e. e .hash) (s .entries)) o)
+
+  -- none of a hash that has no entry waits
+  pub waits-absent : (h : ℕ) → elem h (map (λ e. e .hash) (s .entries)) ≡ false → keep (λ x. eqb (x .hash) h) (s .waiting) ≡ []
+  waits-absent h a =
+      let p : Waiting → Bool = λ x. eqb (x .hash) h in
+      let none-left : length (keep p (map waiterFor (s .entries))) ≡ 0 = ap length (keep-map p waiterFor (s .entries) ∙ ap (map waiterFor) (keep-absent (λ e. e .hash) h (s .entries) a)) in
+      no-length (keep p (s .waiting)) (omega (arith, length-order (keep-order p w), none-left, ap length (keep-append p (s .waiting) gone), length-append (keep p (s .waiting)) (keep p gone)))
+    where
+      no-length : (xs : List Waiting) → length xs ≡ 0 → xs ≡ []
+      no-length [] n = refl
+      no-length (x ∷ xs) n = absurd (omega arith)
 
 -- ---- a whole delta
 -- a hash with no entry is absent

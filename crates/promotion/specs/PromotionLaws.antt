@@ -19,7 +19,8 @@ use Rattle.base.specs.declared.Answer.the-variants.{Taken}
 use Rattle.base.specs.declared.Refusal.the-variants.{OutputFull}
 use Rattle.blake3.specs.Spec.{hash}
 use Rattle.cell_nursery.specs.Entries.{Entry, State, empty}
-use Rattle.cell_nursery.specs.Drain.{promotionDelay, promoted, promotedBytes, drained, drainBytes}
+use Rattle.cell_nursery.specs.Drain.{promotionDelay, due, promoted, promotedBytes, drained, drainBytes}
+use Rattle.cell_nursery.specs.DrainLaws.{named-absent}
 use Rattle.cell_nursery.specs.Layout.{roomOf}
 use Rattle.cell_nursery.specs.Calls.{DrainedOut, drainedOut}
 use Rattle.journal.specs.Journal.{readJournal, readCall}
@@ -31,7 +32,7 @@ use Rattle.demand3.specs.States.{nurseryAfter}
 use Rattle.demand3.specs.NurseryHeld.{NurseryHeld, laid-held, new-nursery, nursery-state, delta-taken, drain-outcome}
 use Rattle.demand3.specs.Holding.{answer-taken, nursery-taken, refused-same}
 use Rattle.promotion.specs.Promotion.{Reachable, fresh, rebuilt, called, lentDelta, insertsOf, removesOf, roundOf, promotedBy, promotedIn, drainInto, anyAccepted, drainsFrom, removesHash, withHash, dueFrom, promotes, Inserted, PromotedOnce, Promotion}
-use Rattle.promotion.specs.TrackLaws.{Tracked, track-delta, track-new, track-drain, track-promoted, none-promoted}
+use Rattle.promotion.specs.TrackLaws.{Tracked, track-delta, track-new, track-drain, track-promoted}
 
 -- ---- a box that can be reached holds a nursery's state
 record Held (b : Box) : Type 0 where
@@ -243,9 +244,9 @@ module _ {e : Entry} {b : Box} {x : Call} {xs : List Call} (i : Inserted e b x x
       }
 
 pub promotion : Promotion
-unfolding promotedBy roundOf keep
+unfolding promotedBy roundOf promoted keep
 promotion = record { once = λ e b x xs i. once i; absent = λ h b a round out. go h b a round (accepted (step b (drain round out) .0)) }
   where
     go : (h : ℕ) (b : Box) → elem h (map (λ e. e .hash) (nurseryOf b .entries)) ≡ false → (round : ℕ) (ok : Bool) → withHash h (pick ok (promoted promotionDelay round (nurseryOf b)) []) ≡ []
-    go h b a round true = none-promoted promotionDelay round h (nurseryOf b) a
+    go h b a round true = named-absent h (nurseryOf b .entries) a (keep (due promotionDelay round) (nurseryOf b .waiting))
     go h b a round false = refl

@@ -6,24 +6,20 @@ use mathlib.Core.Option.{some}
 use mathlib.Core.List.{List, [], _∷_, _++_, map}
 use Prim.Native.Nat.{ℕ, suc, _+_}
 use native.Mathlib.Omega.{arith}
-use native.Mathlib.Decide.{decLe, ℕ-discrete}
-use lib.ListN.{length, length-append}
+use native.Mathlib.Decide.{decLe}
 use lib.Dec.{leb, ltb, eqb}
 use borrow.Author.Tests.{lt-ltb, le-ltb, le-leb, lt-leb, eq-eqb, ne-eqb, eqb-true, eqb-false}
 use Rattle.base.specs.Logic.{pick, any, elem, fold, flat, keep, repeated, ascending}
-use Rattle.base.specs.Laws.{and-left}
 use Rattle.base.specs.ListLaws.{or-false, fails-not, Among, here, there, some-one, some-weaker, elem-some, none-passes}
-use Rattle.base.specs.ListLaws.{keep-append, keep-order, keep-swap, keep-narrow, keep-whole, keep-empty, all-kept, length-order}
-use Rattle.base.specs.SumLaws.{keep-map}
+use Rattle.base.specs.ListLaws.{keep-append, keep-swap, keep-narrow}
 use Rattle.rows.specs.Keys.{putRows}
-use Rattle.rows.specs.RowLaws.{keep-absent}
 use Rattle.cell_nursery.specs.Entries.{Entry, Waiting, State, putWaiting, insert, remove}
 use Rattle.cell_nursery.specs.Items.{Delta}
 use Rattle.cell_nursery.specs.Delta.{present, stateAfter}
 use Rattle.cell_nursery.specs.Drain.{due, named, promoted, drained}
-use Rattle.cell_nursery.specs.DrainLaws.{named-entryAt}
+use Rattle.cell_nursery.specs.DrainLaws.{named-entryAt, named-rows}
 use Rattle.cell_nursery.specs.EntryLaws.{entryAt, elem-entryAt, entryAt-put, entryAt-removed}
-use Rattle.journal_laws.specs.WaitLaws.{waiterFor, Waits}
+use Rattle.journal_laws.specs.WaitLaws.{waiterFor, Waits, waits-absent}
 use Rattle.promotion.specs.Promotion.{withHash}
 
 -- the waiting rows of a hash
@@ -93,6 +89,27 @@ track-removes e out (g ∷ gs) s n t =
     let f = or-false (eqb (e .hash) g) (elem (e .hash) gs) n in
     track-removes e out gs (remove g s) (f .1) (track-remove e out s t g (eqb-false (e .hash) g (f .0)))
 
+-- the entry put in, among others, where no row of its hash waits
+inserted : (e : Entry) {is : List Entry} (t : State) → Among e is → repeated (hashesOf is) ≡ false → rowsAt (e .hash) (t .waiting) ≡ [] → Tracked e false (fold insert is t)
+unfolding fold repeated insert keep
+inserted e t (here {x = x} {xs = xs} p) n r =
+    let f = or-false (elem (x .hash) (hashesOf xs)) (repeated (hashesOf xs)) n in
+    rw p (track-inserts e false xs (insert e t) (rw p at (f .0)) new-one)
+  where
+    new-one : Tracked e false (insert e t)
+    new-one =
+        record {
+          there-is = entryAt-put (e .hash) e (t .entries) ∙ rw (eq-eqb (e .hash) (e .hash) refl);
+          rows = rows-put (e .hash) (waiterFor e) (t .waiting) ∙ rw (r, eq-eqb (e .hash) (e .hash) refl);
+        }
+inserted e t (there {x = x} {xs = xs} m) n r =
+    let f = or-false (elem (x .hash) (hashesOf xs)) (repeated (hashesOf xs)) n in
+    let among = elem-some (λ i. i .hash) (e .hash) xs .1 (some-weaker (λ i q. ap (λ (j : Entry). j .hash) (sym q)) m) in
+    inserted e (insert x t) m (f .1) (other (λ q. true≢false (sym among ∙ ap (λ (k : ℕ). elem k (hashesOf xs)) (sym q) ∙ f .0)))
+  where
+    other : (x .hash ≡ e .hash → ⊥) → rowsAt (e .hash) (insert x t .waiting) ≡ []
+    other ne = rows-put (e .hash) (waiterFor x) (t .waiting) ∙ rw (r, ne-eqb (x .hash) (e .hash) ne)
+
 -- ---- a delta that is accepted and doesn't remove the entry
 module _ (e : Entry) (d : Delta) (s : State) (new : present s d ≡ false) (stays : elem (e .hash) (d .removes) ≡ false) where
   absent : any (λ i. elem (i .hash) (hashesOf (s .entries))) (d .inserts) ≡ false
@@ -112,44 +129,13 @@ module _ (e : Entry) (d : Delta) (s : State) (new : present s d ≡ false) (stay
           let not-there = none-passes (λ j. elem (j .hash) (hashesOf (s .entries))) (d .inserts) .0 absent i among in
           true≢false (sym there ∙ ap (λ (k : ℕ). elem k (hashesOf (s .entries))) same ∙ not-there))
 
-  -- ---- the one that inserts it
-  -- where a hash has no entry, no row of it waits
-  none-waits : (gone : List Waiting) → Waits gone s → elem (e .hash) (hashesOf (s .entries)) ≡ false → rowsAt (e .hash) (s .waiting) ≡ []
-  none-waits gone w a =
-      let q : Waiting → Bool = λ x. eqb (x .hash) (e .hash) in
-      let none : length (keep q (map waiterFor (s .entries))) ≡ 0 = ap length (keep-map q waiterFor (s .entries) ∙ ap (map waiterFor) (keep-absent (λ x. x .hash) (e .hash) (s .entries) a)) in
-      no-length (rowsAt (e .hash) (s .waiting)) (omega (arith, length-order (keep-order q w), none, ap length (keep-append q (s .waiting) gone), length-append (keep q (s .waiting)) (keep q gone)))
-    where
-      no-length : (xs : List Waiting) → length xs ≡ 0 → xs ≡ []
-      no-length [] n = refl
-      no-length (x ∷ xs) n = absurd (omega arith)
-
-  inserted : {is : List Entry} (t : State) → Among e is → repeated (hashesOf is) ≡ false → rowsAt (e .hash) (t .waiting) ≡ [] → Tracked e false (fold insert is t)
-  unfolding fold repeated insert keep
-  inserted t (here {x = x} {xs = xs} p) n r =
-      let f = or-false (elem (x .hash) (hashesOf xs)) (repeated (hashesOf xs)) n in
-      rw p (track-inserts e false xs (insert e t) (rw p at (f .0)) new-one)
-    where
-      new-one : Tracked e false (insert e t)
-      new-one =
-          record {
-            there-is = entryAt-put (e .hash) e (t .entries) ∙ rw (eq-eqb (e .hash) (e .hash) refl);
-            rows = rows-put (e .hash) (waiterFor e) (t .waiting) ∙ rw (r, eq-eqb (e .hash) (e .hash) refl);
-          }
-  inserted t (there {x = x} {xs = xs} m) n r =
-      let f = or-false (elem (x .hash) (hashesOf xs)) (repeated (hashesOf xs)) n in
-      let among = elem-some (λ i. i .hash) (e .hash) xs .1 (some-weaker (λ i q. ap (λ (j : Entry). j .hash) (sym q)) m) in
-      inserted (insert x t) m (f .1) (other (λ q. true≢false (sym among ∙ ap (λ (k : ℕ). elem k (hashesOf xs)) (sym q) ∙ f .0)))
-    where
-      other : (x .hash ≡ e .hash → ⊥) → rowsAt (e .hash) (insert x t .waiting) ≡ []
-      other ne = rows-put (e .hash) (waiterFor x) (t .waiting) ∙ rw (r, ne-eqb (x .hash) (e .hash) ne)
-
+  -- the one that inserts it
   pub track-new : (gone : List Waiting) → Waits gone s → Among e (d .inserts) → Tracked e false (stateAfter d s)
   unfolding stateAfter present
   track-new gone w m =
       let twice = or-false (any (λ i. elem (i .hash) (hashesOf (s .entries))) (d .inserts)) (repeated (hashesOf (d .inserts))) new .1 in
       let alone = none-passes (λ i. elem (i .hash) (hashesOf (s .entries))) (d .inserts) .0 absent e m in
-      track-removes e false (d .removes) (fold insert (d .inserts) s) stays (inserted s m twice (none-waits gone w alone))
+      track-removes e false (d .removes) (fold insert (d .inserts) s) stays (inserted e s m twice (waits-absent gone s w (e .hash) alone))
 
 -- ---- a drain
 module _ (delay round : ℕ) (e : Entry) (out : Bool) (s : State) (t : Tracked e out s) where
@@ -167,35 +153,10 @@ module _ (delay round : ℕ) (e : Entry) (out : Bool) (s : State) (t : Tracked e
       go false true q = rw q
       go false false q = rw q
 
-  -- a row names entries of its own hash
-  named-hash : (w : Waiting) → withHash (e .hash) (named (s .entries) w) ≡ pick (eqb (w .hash) (e .hash)) (named (s .entries) w) []
-  unfolding named
-  named-hash w =
-      let h = e .hash in
-      let q : Entry → Bool = λ x. eqb (x .hash) (w .hash) && eqb (x .born) (w .born) in
-      let own : (x : Entry) → q x ≡ true → x .hash ≡ w .hash = λ x p. eqb-true (x .hash) (w .hash) (and-left _ _ p) in
-      elim (ℕ-discrete (w .hash) h) [
-        | yes m ↦ rw (eq-eqb (w .hash) h m)
-            (keep-whole (λ x. eqb (x .hash) h) q (λ x p. eq-eqb (x .hash) h (own x p ∙ m)) (keep q (s .entries)) (all-kept q (s .entries)))
-        | no m ↦ rw (ne-eqb (w .hash) h m)
-            (keep-empty (λ x. eqb (x .hash) h) q (λ x p. ne-eqb (x .hash) h (λ z. m (sym (own x p) ∙ z))) (keep q (s .entries)) (all-kept q (s .entries)))
-      ]
-
-  -- so what rows name under the hash, the hash's rows name
-  named-rows : (ws : List Waiting) → withHash (e .hash) (flat (named (s .entries)) ws) ≡ flat (named (s .entries)) (rowsAt (e .hash) ws)
-  unfolding flat keep
-  named-rows [] = refl
-  named-rows (w ∷ ws) =
-      keep-append (λ x. eqb (x .hash) (e .hash)) (named (s .entries) w) (flat (named (s .entries)) ws) ∙ rw (named-hash w, named-rows ws) (go (eqb (w .hash) (e .hash)))
-    where
-      go : (b : Bool) → pick b (named (s .entries) w) [] ++ flat (named (s .entries)) (rowsAt (e .hash) ws) ≡ flat (named (s .entries)) (pick b (w ∷ rowsAt (e .hash) ws) (rowsAt (e .hash) ws))
-      go true = refl
-      go false = refl
-
   pub track-promoted : ascending (hashesOf (s .entries)) ≡ true → withHash (e .hash) (promoted delay round s) ≡ pick (leb (e .born + delay) round && not out) (e ∷ []) []
   unfolding promoted due keep flat
   track-promoted o =
-      named-rows (keep (due delay round) (s .waiting))
+      named-rows (e .hash) (s .entries) (keep (due delay round) (s .waiting))
       ∙ rw (keep-swap (λ w. eqb (w .hash) (e .hash)) (due delay round) (s .waiting), t .rows) (go out (leb (e .born + delay) round) refl)
     where
       alone : named (s .entries) (waiterFor e) ≡ e ∷ []
@@ -206,17 +167,3 @@ module _ (delay round : ℕ) (e : Entry) (out : Bool) (s : State) (t : Tracked e
       go true false q = refl
       go false true q = rw (q, alone)
       go false false q = rw q
-
--- ---- a hash that has no entry
-pub none-promoted : (delay round h : ℕ) (s : State) → elem h (hashesOf (s .entries)) ≡ false → withHash h (promoted delay round s) ≡ []
-unfolding promoted named flat keep
-none-promoted delay round h s a = go (keep (due delay round) (s .waiting))
-  where
-    none-named : (w : Waiting) → withHash h (named (s .entries) w) ≡ []
-    none-named w =
-        let q : Entry → Bool = λ e. eqb (e .hash) (w .hash) && eqb (e .born) (w .born) in
-        keep-swap (λ e. eqb (e .hash) h) q (s .entries) ∙ ap (λ (es : List Entry). keep q es) (keep-absent (λ e. e .hash) h (s .entries) a)
-
-    go : (ws : List Waiting) → withHash h (flat (named (s .entries)) ws) ≡ []
-    go [] = refl
-    go (w ∷ ws) = keep-append (λ e. eqb (e .hash) h) (named (s .entries) w) (flat (named (s .entries)) ws) ∙ rw (none-named w, go ws)
