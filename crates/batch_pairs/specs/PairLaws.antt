@@ -19,7 +19,7 @@ use Rattle.counters.specs.Batch.{kept, stateAfter, applyKept, applyBatch}
 use Rattle.counters.specs.BatchLaws.{applyKept-order}
 use Rattle.counters.specs.Layout.{ordered, countRow, roomOf, withMaintenance, stateOf, holds, batchOf}
 use Rattle.counters.specs.LayoutLaws.{held}
-use Rattle.counters.specs.Calls.{Changed, changed, onState, laid, laidOut, batchCall}
+use Rattle.counters.specs.Calls.{Changed, effect, onState, laid, laidOut, batchCall}
 use Rattle.counters.specs.CallLaws.{batch-held, batch-accepted, batch-length, batch-taken-holds}
 use Rattle.counter_walk.specs.Words.{wordsOf, words-batch}
 use Rattle.snapshot.specs.Write.{snapshotBytes}
@@ -40,7 +40,7 @@ module _ (c : Counters) (t : List ℕ) (h : holds c t ≡ true) where
   in-room = omega (arith, held c t h .laid .fits, length-rowsOf countRow (c .stored) t)
 
   -- laid out, it is the record and the table
-  laid-again : laid (length t) (stateOf c t) ≡ changed (record { answer = Taken; counters = c }) t
+  laid-again : laid (length t) (stateOf c t) ≡ effect (record { answer = Taken; counters = c }) t
   unfolding laid
   laid-again = rw (held c t h .same-record, held c t h .same-table)
 
@@ -103,7 +103,7 @@ module _ (c : Counters) (t ws vs : List ℕ) where
           ∙ passes-taken (roomOf t) (stateAfter (kept ts) s) (map exchanged (kept ts)) (inverse-passes (roomOf t) s (kept ts) o few (a .passes))
           ∙ ap taken (inverse-state (roomOf t) s (kept ts) o few (a .passes))
 
-      inverse-leaves : batchCall c t ws .result .answer ≡ Taken → batchCall c₁ t₁ vs ≡ changed (record { answer = Taken; counters = left }) t
+      inverse-leaves : batchCall c t ws .result .answer ≡ Taken → batchCall c₁ t₁ vs ≡ effect (record { answer = Taken; counters = left }) t
       unfolding applyBatch laidOut
       inverse-leaves e =
           batch-held c₁ t₁ vs us (batch-taken-holds c t ws e) v
@@ -114,7 +114,7 @@ module _ (c : Counters) (t ws vs : List ℕ) where
 -- an inverse leaves the table, and the record but for maintenance
 pub call-rolled-back : (c : Counters) (t ws vs : List ℕ) (ts us : List CounterTransition) → batchOf ws ≡ some ts → batchOf vs ≡ some us → Inverse ts us → batchCall c t ws .result .answer ≡ Taken
     → batchCall (batchCall c t ws .result .counters) (batchCall c t ws .table) vs
-    ≡ changed (record { answer = Taken; counters = withMaintenance c (maintained (map exchanged (kept ts)) (maintained (kept ts) (c .maintenance))) }) t
+    ≡ effect (record { answer = Taken; counters = withMaintenance c (maintained (map exchanged (kept ts)) (maintained (kept ts) (c .maintenance))) }) t
 call-rolled-back c t ws vs ts us w v inverse e = inverse-leaves c t ws vs ts us (applies c t ws ts w e) v inverse e
 
 -- in either order: record and table are the same

@@ -27,7 +27,7 @@ use Rattle.delta_items.specs.WalkLaws.{delta-whole, delta-none, length-inserts,
 use Rattle.record_read.specs.DecodeLaws.{payload-short, payload-past, payload-items}
 use Rattle.node_box.specs.Box.{Call, delta, step, withCounters, withNursery}
 use Rattle.box_items.specs.declared.Ran.{Ran}
-use Rattle.box_items.specs.Items.{allocateItem, wordsIn, batchItem, deltaItem, drainRoom, drainItem, callOf, boxOf, ended, badItem, ran}
+use Rattle.box_items.specs.Items.{allocateItem, wordsIn, batchItem, deltaItem, drainRoom, drainItem, callOf, boxOf, effect, badItem, ran}
 
 -- ---- the words of a body
 
@@ -130,38 +130,38 @@ module _ (kind : ℕ) (body : List ℕ) where
 -- ---- what running an item gives
 
 module _ (c : Counters) (n : Nursery) (t es ws cs : List ℕ) where
-  pub bad-ran : (r : Ran) (item : Option Call) → r ≡ badItem c n → item ≡ none → ended r t es ws cs ≡ ran (boxOf c t n es ws cs) item
+  pub bad-ran : (r : Ran) (item : Option Call) → r ≡ badItem c n → item ≡ none → effect r t es ws cs ≡ ran (boxOf c t n es ws cs) item
   unfolding ran
-  bad-ran r item e f = ap (λ (x : Ran). ended x t es ws cs) e ∙ ap (λ (o : Option Call). ran (boxOf c t n es ws cs) o) (sym f)
+  bad-ran r item e f = ap (λ (x : Ran). effect x t es ws cs) e ∙ ap (λ (o : Option Call). ran (boxOf c t n es ws cs) o) (sym f)
 
   module _ (body : List ℕ) where
     pub allocate-ran : (a : Allocated) → a ≡ counters.allocCall c → length body ≡ 0
-        → ended (record { good = true; answer = a .answer; counters = a .counters; nursery = n }) t es ws cs ≡ ran (boxOf c t n es ws cs) (allocateItem body)
+        → effect (record { good = true; answer = a .answer; counters = a .counters; nursery = n }) t es ws cs ≡ ran (boxOf c t n es ws cs) (allocateItem body)
     unfolding allocateItem ran step withCounters
     allocate-ran a e h = rw (eq-eqb (length body) 0 h, e)
 
-    pub batch-ran : (a : Applied) (u : List ℕ) → counters.changed a u ≡ counters.batchCall c t (wordsIn (length body / 8) body) → length body % 24 ≡ 0
-        → ended (record { good = true; answer = a .answer; counters = a .counters; nursery = n }) u es ws cs ≡ ran (boxOf c t n es ws cs) (batchItem body)
+    pub batch-ran : (a : Applied) (u : List ℕ) → counters.effect a u ≡ counters.batchCall c t (wordsIn (length body / 8) body) → length body % 24 ≡ 0
+        → effect (record { good = true; answer = a .answer; counters = a .counters; nursery = n }) u es ws cs ≡ ran (boxOf c t n es ws cs) (batchItem body)
     unfolding batchItem ran step withCounters
     batch-ran a u e h =
         rw (eq-eqb (length body % 24) 0 h)
-        (ap (λ (x : counters.Changed). ended (record { good = true; answer = x .result .answer; counters = x .result .counters; nursery = n }) (x .table) es ws cs) e)
+        (ap (λ (x : counters.Changed). effect (record { good = true; answer = x .result .answer; counters = x .result .counters; nursery = n }) (x .table) es ws cs) e)
 
-    pub delta-ran : (x y : ℕ) (a : Committed) (e w s : List ℕ) → nursery.changed a e w s ≡ nursery.deltaCall n es ws cs false x y (behind body)
+    pub delta-ran : (x y : ℕ) (a : Committed) (e w s : List ℕ) → nursery.effect a e w s ≡ nursery.deltaCall n es ws cs false x y (behind body)
         → 16 ≤ length body → x ≡ unle (take 4 (drop 8 body)) → y ≡ unle (take 4 (drop 12 body)) → itemsFit 2 x y (behind body) ≡ true
-        → ended (record { good = true; answer = a .answer; counters = c; nursery = a .nursery }) t e w s ≡ ran (boxOf c t n es ws cs) (deltaItem body)
+        → effect (record { good = true; answer = a .answer; counters = c; nursery = a .nursery }) t e w s ≡ ran (boxOf c t n es ws cs) (deltaItem body)
     unfolding ran step withNursery
     delta-ran x y a e w s q long p r fit =
         rw (delta-good body long x y p r fit)
-        (ap (λ (z : nursery.Changed). ended (record { good = true; answer = z .result .answer; counters = c; nursery = z .result .nursery }) t (z .entries) (z .waiting) (z .cells)) (q ∙ ap (λ (l : List ℕ). nursery.deltaCall n es ws cs false x y l) (behind-all body)))
+        (ap (λ (z : nursery.Changed). effect (record { good = true; answer = z .result .answer; counters = c; nursery = z .result .nursery }) t (z .entries) (z .waiting) (z .cells)) (q ∙ ap (λ (l : List ℕ). nursery.deltaCall n es ws cs false x y l) (behind-all body)))
 
     -- the output has room for a drain's
-    pub drain-ran : (round : ℕ) (a : Drained) (o w : List ℕ) → nursery.drainedAs a o w ≡ nursery.drainCall promotionDelay n es ws cs round (zeros 27136)
+    pub drain-ran : (round : ℕ) (a : Drained) (o w : List ℕ) → nursery.drainEffect a o w ≡ nursery.drainCall promotionDelay n es ws cs round (zeros 27136)
         → length body ≡ 4 → round ≡ unle (take 4 body)
-        → ended (record { good = true; answer = a .answer; counters = c; nursery = a .nursery }) t es w cs ≡ ran (boxOf c t n es ws cs) (drainItem body)
+        → effect (record { good = true; answer = a .answer; counters = c; nursery = a .nursery }) t es w cs ≡ ran (boxOf c t n es ws cs) (drainItem body)
     unfolding drainItem drainRoom ran step withNursery
     drain-ran round a o w q h e =
         let f : round ≡ unle body = e ∙ ap (λ (l : List ℕ). unle l) (take-all 4 body (omega arith)) in
         let r = q ∙ ap (λ (k : ℕ). nursery.drainCall promotionDelay n es ws cs k (zeros 27136)) f in
         rw (eq-eqb (length body) 4 h)
-        (ap (λ (z : nursery.DrainedOut). ended (record { good = true; answer = z .result .answer; counters = c; nursery = z .result .nursery }) t es (z .waiting) cs) r)
+        (ap (λ (z : nursery.DrainedOut). effect (record { good = true; answer = z .result .answer; counters = c; nursery = z .result .nursery }) t es (z .waiting) cs) r)

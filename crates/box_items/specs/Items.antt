@@ -66,9 +66,9 @@ pub record Ended : Type 0 where
   pub answer : Answer
   pub box : Box
 
--- the record of what running an item returned and left, for its contract
-abbrev pub ended : Ran → List ℕ → List ℕ → List ℕ → List ℕ → Ended
-ended r t es ws cs = record { good = r .good; answer = r .answer; box = boxOf (r .counters) t (r .nursery) es ws cs }
+-- running an item's effect, for its contract: what it returned, and the tables as it left them
+abbrev pub effect : Ran → List ℕ → List ℕ → List ℕ → List ℕ → Ended
+effect r t es ws cs = record { good = r .good; answer = r .answer; box = boxOf (r .counters) t (r .nursery) es ws cs }
 
 abbrev pub badItem : Counters → Nursery → Ran
 badItem c n = record { good = false; answer = Refused Broken; counters = c; nursery = n }

@@ -14,7 +14,7 @@ ghost use Prim.Native.Nat.{ℕ, _*_, _≤_};
 ghost use lib.ListN.{length};
 ghost use lib.Seq.{paste};
 ghost use Rattle.delta_items.specs.Walk.{itemsFit};
-ghost use Rattle.box_items.specs.Items.{badItem, ended, boxOf, ran, wordsIn, allocateItem, batchItem, deltaItem, drainItem, callOf, headerIn, lineOf};
+ghost use Rattle.box_items.specs.Items.{badItem, effect, boxOf, ran, wordsIn, allocateItem, batchItem, deltaItem, drainItem, callOf, headerIn, lineOf};
 
 // What an item's first six bytes say.
 pub struct Header {
@@ -76,7 +76,7 @@ fn bad(counters: Counters, nursery: Nursery) -> Ran
 
 // Kind 1. It is lent no table: whatever they hold, they stay so.
 fn run_allocate(counters: Counters, nursery: Nursery, body: &[u8]) -> Ran
-    ensures { λ r. ⌜ ((t es ws cs : List ℕ) → ended r t es ws cs ≡ ran (boxOf counters t nursery es ws cs) (allocateItem (now (body .entry)))) ⌝ }
+    ensures { λ r. ⌜ ((t es ws cs : List ℕ) → effect r t es ws cs ≡ ran (boxOf counters t nursery es ws cs) (allocateItem (now (body .entry)))) ⌝ }
 {
     if body.len() != 0 {
         return bad(counters, nursery);
@@ -107,7 +107,7 @@ fn read_words(body: &[u8], words: &mut [u64], n: usize)
 // Kind 2. It is lent the counts alone.
 fn run_batch(counters: Counters, nursery: Nursery, t: &mut [u64], body: &[u8]) -> Ran
     requires { ⌜ length (now body) ≤ 32768 ⌝ }
-    ensures { λ r. ⌜ ((es ws cs : List ℕ) → ended r (now (t .exit)) es ws cs ≡ ran (boxOf counters (now (t .entry)) nursery es ws cs) (batchItem (now (body .entry)))) ⌝ }
+    ensures { λ r. ⌜ ((es ws cs : List ℕ) → effect r (now (t .exit)) es ws cs ≡ ran (boxOf counters (now (t .entry)) nursery es ws cs) (batchItem (now (body .entry)))) ⌝ }
 {
     if body.len() % 24 != 0 {
         return bad(counters, nursery);
@@ -145,7 +145,7 @@ fn run_delta(
     cs: &mut [u8],
     body: &[u8],
 ) -> Ran
-    ensures { λ r. ⌜ ((t : List ℕ) → ended r t (now (es .exit)) (now (ws .exit)) (now (cs .exit)) ≡ ran (boxOf counters t nursery (now (es .entry)) (now (ws .entry)) (now (cs .entry))) (deltaItem (now (body .entry)))) ⌝ }
+    ensures { λ r. ⌜ ((t : List ℕ) → effect r t (now (es .exit)) (now (ws .exit)) (now (cs .exit)) ≡ ran (boxOf counters t nursery (now (es .entry)) (now (ws .entry)) (now (cs .entry))) (deltaItem (now (body .entry)))) ⌝ }
 {
     if body.len() < 16 {
         return bad(counters, nursery);
@@ -175,7 +175,7 @@ fn run_drain(
     cs: &[u8],
     body: &[u8],
 ) -> Ran
-    ensures { λ r. ⌜ ((t : List ℕ) → ended r t (now (es .entry)) (now (ws .exit)) (now (cs .entry)) ≡ ran (boxOf counters t nursery (now (es .entry)) (now (ws .entry)) (now (cs .entry))) (drainItem (now (body .entry)))) ⌝ }
+    ensures { λ r. ⌜ ((t : List ℕ) → effect r t (now (es .entry)) (now (ws .exit)) (now (cs .entry)) ≡ ran (boxOf counters t nursery (now (es .entry)) (now (ws .entry)) (now (cs .entry))) (drainItem (now (body .entry)))) ⌝ }
 {
     if body.len() != 4 {
         return bad(counters, nursery);
@@ -204,7 +204,7 @@ pub fn run_item(
     kind: u16,
     body: &[u8],
 ) -> Ran
-    ensures { λ r. ⌜ ended r (now (t .exit)) (now (es .exit)) (now (ws .exit)) (now (cs .exit)) ≡ ran (boxOf counters (now (t .entry)) nursery (now (es .entry)) (now (ws .entry)) (now (cs .entry))) (callOf kind (now (body .entry))) ⌝ }
+    ensures { λ r. ⌜ effect r (now (t .exit)) (now (es .exit)) (now (ws .exit)) (now (cs .exit)) ≡ ran (boxOf counters (now (t .entry)) nursery (now (es .entry)) (now (ws .entry)) (now (cs .entry))) (callOf kind (now (body .entry))) ⌝ }
 {
     if 32768 < body.len() {
         return bad(counters, nursery);

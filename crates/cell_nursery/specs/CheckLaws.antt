@@ -19,7 +19,7 @@ use Rattle.rows.specs.TableLaws.{length-rowsOf, drop-row}
 use Rattle.rows.specs.Keys.{firstFour, keys}
 use Rattle.cell_nursery.specs.declared.Nursery.{Nursery}
 use Rattle.cell_nursery.specs.Entries.{empty, cellBytes}
-use Rattle.cell_nursery.specs.Calls.{changed, laid, newCall}
+use Rattle.cell_nursery.specs.Calls.{effect, laid, newCall}
 use Rattle.cell_nursery.specs.Layout.{entryRows, cellsOf, recordOf, entriesTable, waitingTable, cellsTable, hashAt, EntryRow, entryRow, WaitingRow, waitingRow, roomOf, endToEnd, inBounds, byHash, byRound, holdsEntries, holdsWaiting, holdsCells, holds}
 use Rattle.cell_nursery.specs.LayoutLaws.{hashes-keys, ends-after, entries-held, waiting-held}
 
@@ -189,7 +189,7 @@ zeroed t =
     ∙ rw (length-replicate {A = ℕ} (length t) 0, drop-length t) (append-nil (zeros (length t)))
 
 pub new-tables : (es ws cs : List ℕ)
-    → changed (record { answer = Taken; nursery = record { entries = 0; waiting = 0; «cell_bytes» = 0 } }) (paste es 0 (zeros (length es)) (length es)) (paste ws 0 (zeros (length ws)) (length ws)) (paste cs 0 (zeros (length cs)) (length cs))
+    → effect (record { answer = Taken; nursery = record { entries = 0; waiting = 0; «cell_bytes» = 0 } }) (paste es 0 (zeros (length es)) (length es)) (paste ws 0 (zeros (length ws)) (length ws)) (paste cs 0 (zeros (length cs)) (length cs))
     ≡ newCall es ws cs
 unfolding newCall laid recordOf entriesTable waitingTable cellsTable tableOf empty entryRows cellsOf cellBytes flat sumOf
 new-tables es ws cs =

@@ -13,7 +13,7 @@ use lib.Dec.{ltb}
 use borrow.Author.Tests.{ltb-true, leb-true, lt-ltb, le-ltb}
 use Rattle.base.specs.Logic.{all, flat, sumOf, overlay}
 use Rattle.base.specs.Bytes.{le16, le32, le64}
-use Rattle.base.specs.Output.{fitting, put, written}
+use Rattle.base.specs.Output.{effect, fitting, put, written}
 use Rattle.base.specs.Laws.{and-left, and-right, flat-append, length-digits}
 use Rattle.base.specs.declared.Answer.the-variants.{Taken, Refused}
 use Rattle.base.specs.declared.Refusal.the-variants.{Broken, OutputFull}
@@ -25,7 +25,7 @@ use Rattle.cell_nursery.specs.declared.Nursery.{Nursery}
 use Rattle.cell_nursery.specs.Entries.{Entry, cellBytes, hashBytes, insertBytes}
 use Rattle.cell_nursery.specs.Drain.{promotedBytes, listingBytes}
 use Rattle.cell_nursery.specs.Layout.{hashOf, hashAt, EntryRow, entryRow, entryOf, entriesOf, inBounds, holdsEntries, holdsCells}
-use Rattle.cell_nursery.specs.Calls.{wrote, listingCall}
+use Rattle.cell_nursery.specs.Calls.{listingCall}
 use Rattle.cell_nursery.specs.ItemLaws.{length-hashBytes}
 use Rattle.cell_nursery.specs.HashLaws.{hash-first}
 use Rattle.cell_nursery.specs.LayoutLaws.{EntriesHeld, CellsHeld, number-entries, bytes-same}
@@ -181,11 +181,11 @@ length-listing [] = refl
 length-listing (e ∷ es) = simp (length-append, length-hashBytes, length-digits) (omega (arith, length-listing es))
 
 module _ (r : Nursery) (es cs out : List ℕ) where
-  pub listing-not-entries : holdsEntries r es ≡ false → wrote (record { answer = Refused Broken; len = 0 }) out ≡ listingCall r es cs out
+  pub listing-not-entries : holdsEntries r es ≡ false → effect (record { answer = Refused Broken; len = 0 }) out ≡ listingCall r es cs out
   unfolding listingCall written put fitting
   listing-not-entries e = rw e
 
-  pub listing-not-cells : holdsEntries r es ≡ true → holdsCells r cs ≡ false → wrote (record { answer = Refused Broken; len = 0 }) out ≡ listingCall r es cs out
+  pub listing-not-cells : holdsEntries r es ≡ true → holdsCells r cs ≡ false → effect (record { answer = Refused Broken; len = 0 }) out ≡ listingCall r es cs out
   unfolding listingCall written put fitting
   listing-not-cells e f = rw (e, f)
 
@@ -194,12 +194,12 @@ module _ (r : Nursery) (es cs out : List ℕ) where
     listing-length = length-listing (entriesOf (r .entries) es cs) ∙ rw (number-entries r es cs, bytes-same r es cs x z)
 
     module _ (a : holdsEntries r es ≡ true) (b : holdsCells r cs ≡ true) where
-      pub listing-full : length out < r .entries * 46 + r .«cell_bytes» → wrote (record { answer = Refused OutputFull; len = 0 }) out ≡ listingCall r es cs out
+      pub listing-full : length out < r .entries * 46 + r .«cell_bytes» → effect (record { answer = Refused OutputFull; len = 0 }) out ≡ listingCall r es cs out
       unfolding listingCall written put fitting
       listing-full l = rw (a, b, listing-length, lt-ltb (length out) (r .entries * 46 + r .«cell_bytes») l)
 
       pub listing-done : r .entries * 46 + r .«cell_bytes» ≤ length out
-          → wrote (record { answer = Taken; len = r .entries * 46 + r .«cell_bytes» }) (overlay (listingBytes (entriesOf (r .entries) es cs)) out) ≡ listingCall r es cs out
+          → effect (record { answer = Taken; len = r .entries * 46 + r .«cell_bytes» }) (overlay (listingBytes (entriesOf (r .entries) es cs)) out) ≡ listingCall r es cs out
       unfolding listingCall written put fitting
       listing-done l = rw (a, b, listing-length, le-ltb (length out) (r .entries * 46 + r .«cell_bytes») l) (rw listing-length)
 

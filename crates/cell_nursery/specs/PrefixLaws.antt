@@ -24,7 +24,7 @@ use Rattle.cell_nursery.specs.declared.Nursery.{Nursery}
 use Rattle.cell_nursery.specs.Entries.{Entry, Waiting}
 use Rattle.cell_nursery.specs.Drain.{due, named, promoted, drained, promotedBytes, drainBytes}
 use Rattle.cell_nursery.specs.Layout.{hashOf, hashAt, WaitingRow, waitingRow, entryOf, waitingRowOf, waiterOf, recordOf, waitingTable, entriesOf, waitingOf, stateOf, holds}
-use Rattle.cell_nursery.specs.Calls.{onState, drainedAs, drainedOut, drainCall}
+use Rattle.cell_nursery.specs.Calls.{onState, drainEffect, drainedOut, drainCall}
 use Rattle.cell_nursery.specs.HashLaws.{U64, hash-first}
 use Rattle.cell_nursery.specs.EntryLaws.{entryAt-hit, entryAt-miss}
 use Rattle.cell_nursery.specs.LayoutLaws.{EntriesHeld, WaitingHeld, CellsHeld, number-entries, entries-keys, bytes-same, number-waiting, waiting-keys, waiters-same}
@@ -201,7 +201,7 @@ map-drop (suc j) [] = refl
 map-drop (suc j) (w ∷ xs) = map-drop j xs
 
 module _ (delay round : ℕ) (r : Nursery) (es ws cs : List ℕ) where
-  pub drain-broken : (out : List ℕ) → holds r es ws cs ≡ false → drainedAs (record { answer = Refused Broken; len = 0; nursery = r }) out ws ≡ drainCall delay r es ws cs round out
+  pub drain-broken : (out : List ℕ) → holds r es ws cs ≡ false → drainEffect (record { answer = Refused Broken; len = 0; nursery = r }) out ws ≡ drainCall delay r es ws cs round out
   unfolding drainCall drainedOut onState fitting
   drain-broken out e = rw e
 
@@ -235,12 +235,12 @@ module _ (delay round : ℕ) (r : Nursery) (es ws cs : List ℕ) where
 
     module _ (out : List ℕ) (ok : holds r es ws cs ≡ true) where
       pub drain-full : length out < length (flat (handedOut (entriesOf (r .entries) es cs)) (take k (waitingOf (r .waiting) ws)))
-          → drainedAs (record { answer = Refused OutputFull; len = 0; nursery = r }) out ws ≡ drainCall delay r es ws cs round out
+          → drainEffect (record { answer = Refused OutputFull; len = 0; nursery = r }) out ws ≡ drainCall delay r es ws cs round out
       unfolding drainCall drainedOut onState fitting
       drain-full l = rw (ok, drain-bytes, lt-ltb (length out) (length (flat (handedOut (entriesOf (r .entries) es cs)) (take k (waitingOf (r .waiting) ws)))) l)
 
       pub drain-done : U64 ws → (bs : List ℕ) → bs ≡ flat (handedOut (entriesOf (r .entries) es cs)) (take k (waitingOf (r .waiting) ws)) → length bs ≤ length out
-          → drainedAs (record { answer = Taken; len = length bs; nursery = record { entries = r .entries; waiting = r .waiting - k; «cell_bytes» = r .«cell_bytes» } }) (overlay bs out) (take 0 ws ++ (take (r .waiting * 5 - (0 + k * 5)) (drop (0 + k * 5) ws) ++ (zeros (k * 5) ++ drop (r .waiting * 5) ws)))
+          → drainEffect (record { answer = Taken; len = length bs; nursery = record { entries = r .entries; waiting = r .waiting - k; «cell_bytes» = r .«cell_bytes» } }) (overlay bs out) (take 0 ws ++ (take (r .waiting * 5 - (0 + k * 5)) (drop (0 + k * 5) ws) ++ (zeros (k * 5) ++ drop (r .waiting * 5) ws)))
           ≡ drainCall delay r es ws cs round out
       unfolding drainCall drainedOut onState fitting
       drain-done v bs e l = rw (ok, drain-bytes, ← e, le-ltb (length out) (length bs) l, after, ← table-after v)

@@ -16,7 +16,7 @@ ghost use Rattle.counters.specs.Layout.{recordOf, stateOf};
 ghost use Rattle.counters.specs.Batch.{kept, named, unallocated, stateAfter};
 ghost use Rattle.counters.specs.Held.{Judged};
 ghost use Rattle.counters.specs.Steps.{transitions};
-ghost use Rattle.counters.specs.Calls.{changed, batchCall};
+ghost use Rattle.counters.specs.Calls.{effect, batchCall};
 
 // A refusal leaves the record as it is.
 fn refused(c: Counters, r: Refusal) -> Applied
@@ -53,7 +53,7 @@ fn taken(c: Counters, t: &mut [u64], b: &[u64]) -> Applied
 // write.
 fn apply_once(c: Counters, t: &mut [u64], b: &[u64]) -> Applied
     requires { ⌜ (layout.holds c (now t) ≡ true) × (length (now b) % 3 ≡ 0) × (any (unallocated (c .«next_idx» .0)) (kept (transitions (now b))) ≡ false) × (repeated (named (kept (transitions (now b)))) ≡ false) ⌝ }
-    ensures { λ r. ⌜ changed r (now (t .exit)) ≡ batchCall c (now (t .entry)) (now (b .entry)) ⌝ }
+    ensures { λ r. ⌜ effect r (now (t .exit)) ≡ batchCall c (now (t .entry)) (now (b .entry)) ⌝ }
 {
     let n = c.stored;
     if counter_checks::any_false_old(t, n, b) {
@@ -81,7 +81,7 @@ fn apply_once(c: Counters, t: &mut [u64], b: &[u64]) -> Applied
 // words behind the rows may serve 3 to sort in, and are 0 again.
 pub fn apply_batch_held(c: Counters, t: &mut [u64], b: &[u64]) -> Applied
     requires { ⌜ layout.holds c (now t) ≡ true ⌝ }
-    ensures { λ r. ⌜ changed r (now (t .exit)) ≡ batchCall c (now (t .entry)) (now (b .entry)) ⌝ }
+    ensures { λ r. ⌜ effect r (now (t .exit)) ≡ batchCall c (now (t .entry)) (now (b .entry)) ⌝ }
 {
     if b.len() % 3 != 0 {
         return refused(c, Refusal::Broken);
@@ -98,7 +98,7 @@ pub fn apply_batch_held(c: Counters, t: &mut [u64], b: &[u64]) -> Applied
 
 // A batch: taken whole or refused whole, and a refusal changes nothing.
 pub fn apply_batch(c: Counters, t: &mut [u64], b: &[u64]) -> Applied
-    ensures { λ r. ⌜ changed r (now (t .exit)) ≡ batchCall c (now (t .entry)) (now (b .entry)) ⌝ }
+    ensures { λ r. ⌜ effect r (now (t .exit)) ≡ batchCall c (now (t .entry)) (now (b .entry)) ⌝ }
 {
     if !counter_rows::holds(c, t) {
         return refused(c, Refusal::Broken);

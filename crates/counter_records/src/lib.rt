@@ -7,7 +7,7 @@ use counters::CounterTransition;
 use counters::Counters;
 use counters::NextIdx;
 ghost use mathlib.Core.Path.{_≡_};
-ghost use Rattle.counters.specs.Calls.{changed, batchCall};
+ghost use Rattle.counters.specs.Calls.{effect, batchCall};
 ghost use Rattle.counters.specs.Steps.{transition};
 ghost use Rattle.counter_walk.specs.Walk.{turned, turnedTable, finished, Ready};
 ghost use Rattle.counter_walk.specs.Words.{wordsOf};
@@ -45,7 +45,7 @@ fn finish(s: Walk) -> Applied
 
 // A batch of records: taken whole or refused whole, and a refusal changes nothing.
 pub fn apply_batch(c: Counters, t: &mut [u64], b: &[CounterTransition]) -> Applied
-    ensures { λ r. ⌜ changed r (now (t .exit)) ≡ batchCall c (now (t .entry)) (wordsOf (now (b .entry))) ⌝ }
+    ensures { λ r. ⌜ effect r (now (t .exit)) ≡ batchCall c (now (t .entry)) (wordsOf (now (b .entry))) ⌝ }
 {
     let mut s = counter_walk::begin(c, t, b.len());
     while s.at < b.len() {

@@ -8,11 +8,11 @@ use counters::Idx;
 use counters::NextIdx;
 ghost use mathlib.Core.Path.{_≡_};
 ghost use Rattle.counters.specs.Maintenance.{standard};
-ghost use Rattle.counters.specs.Calls.{made, newCall, allocCall};
+ghost use Rattle.counters.specs.Calls.{newEffect, newCall, allocCall};
 
 // Fresh counters at a next index, in a table of any content.
 pub fn new(next_idx: NextIdx, t: &mut [u64]) -> Counters
-    ensures { λ r. ⌜ made r (now (t .exit)) ≡ newCall (standard .base) «next_idx» (now (t .entry)) ⌝ }
+    ensures { λ r. ⌜ newEffect r (now (t .exit)) ≡ newCall (standard .base) «next_idx» (now (t .entry)) ⌝ }
 {
     let n = t.len();
     word_slices::fill(t, 0, n, 0);

@@ -16,7 +16,7 @@ use Rattle.counters.specs.Maintenance.{maintained}
 use Rattle.counters.specs.Batch.{kept, named, births, deaths, countsAfter, stateAfter}
 use Rattle.counters.specs.Layout.{countRow, holds, recordOf, tableOf, stateOf}
 use Rattle.counters.specs.Held.{Judged}
-use Rattle.counters.specs.Calls.{changed, batchCall}
+use Rattle.counters.specs.Calls.{effect, batchCall}
 use Rattle.counters.specs.Steps.{some}
 use Rattle.counters.specs.KeptLaws.{first-fits}
 use Rattle.counter_walk.specs.declared.Phase.{Phase}
@@ -77,7 +77,7 @@ pub record Asking (c : Counters) (t₀ : List ℕ) (bs : List CounterTransition)
 -- the batch passed every test
 pub record Passed (c : Counters) (t₀ : List ℕ) (bs : List CounterTransition) : Type 0 where
   pub judged : Judged c t₀ (wordsOf bs)
-  pub gives : changed (record { answer = Taken; counters = recordOf (stateAfter (kept bs) (stateOf c t₀)) }) (tableOf (length t₀) (stateAfter (kept bs) (stateOf c t₀))) ≡ batchCall c t₀ (wordsOf bs)
+  pub gives : effect (record { answer = Taken; counters = recordOf (stateAfter (kept bs) (stateOf c t₀)) }) (tableOf (length t₀) (stateAfter (kept bs) (stateOf c t₀))) ≡ batchCall c t₀ (wordsOf bs)
 
 -- the record after the batch, but for its number of rows
 abbrev pub almostAfter : Counters → List CounterTransition → Counters
@@ -109,7 +109,7 @@ pub record Over (c : Counters) (t₀ : List ℕ) (bs : List CounterTransition) (
   pub phase : s .phase ≡ End
   pub at-end : s .at ≡ length bs
   pub long : length t ≡ length t₀
-  pub gives : changed (finished s) t ≡ batchCall c t₀ (wordsOf bs)
+  pub gives : effect (finished s) t ≡ batchCall c t₀ (wordsOf bs)
 
 -- where the walk is
 pub data AtPhase (c : Counters) (t₀ : List ℕ) (bs : List CounterTransition) (s : Walk) (t : List ℕ) : Type 0 where

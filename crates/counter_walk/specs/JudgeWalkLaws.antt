@@ -20,7 +20,7 @@ use Rattle.counters.specs.Counts.{Entry}
 use Rattle.counters.specs.Maintenance.{falls, rises, maintained}
 use Rattle.counters.specs.Batch.{birth, death, kept, named, unallocated, falseOld, births, deaths, offTotal, countsAfter, stateAfter}
 use Rattle.counters.specs.Layout.{roomOf, recordOf, tableOf, stateOf}
-use Rattle.counters.specs.Calls.{changed, batchCall}
+use Rattle.counters.specs.Calls.{effect, batchCall}
 use Rattle.counters.specs.Steps.{transitions, some}
 use Rattle.counters.specs.JudgeLaws as judge
 use Rattle.counters.specs.JudgeLaws.{judge-unallocated, judge-repeated, judge-false-old, judge-off-total, rows-after, judge-full, judge-taken, total-of}
@@ -52,7 +52,7 @@ startsIn p s = moved s p 0
 module _ (c : Counters) (t₀ : List ℕ) (bs : List CounterTransition) where
   -- a batch that passed is over once its second pass is
   pub taken-over : (s : Walk) (t : List ℕ) (i : ℕ) → Passed c t₀ bs → s .answer ≡ Taken → s .counters ≡ almostAfter c bs
-      → Seen true bs (length t₀) (goal true c t₀ bs) i (s .rows) t → length bs ≤ i → changed (finished s) t ≡ batchCall c t₀ (wordsOf bs)
+      → Seen true bs (length t₀) (goal true c t₀ bs) i (s .rows) t → length bs ≤ i → effect (finished s) t ≡ batchCall c t₀ (wordsOf bs)
   unfolding recordOf stateAfter stateOf tableOf
   taken-over s t i p a e seen h =
       let q = seen-all true bs (length t₀) (goal true c t₀ bs) (goal-fits true c t₀ bs (p .judged)) i (s .rows) t seen h in
@@ -84,7 +84,7 @@ module _ (c : Counters) (t₀ : List ℕ) (bs : List CounterTransition) where
     next = c .«next_idx» .0
 
     -- a refusal ends the walk
-    refuses : (r : Refusal) → changed (record { answer = Refused r; counters = c }) t₀ ≡ batchCall c t₀ ws → Lands c t₀ bs k (ended s r) t₀
+    refuses : (r : Refusal) → effect (record { answer = Refused r; counters = c }) t₀ ≡ batchCall c t₀ ws → Lands c t₀ bs k (ended s r) t₀
     unfolding leftIn
     refuses r e = record { at-phase = over (record { phase = refl; at-end = u .len; long = refl; gives = rw (u .same, u .rows) e }); nearer = omega arith }
 

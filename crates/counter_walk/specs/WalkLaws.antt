@@ -12,7 +12,7 @@ use Rattle.base.specs.declared.Refusal.the-variants.{Broken}
 use Rattle.counters.specs.declared.Counters.{Counters}
 use Rattle.counters.specs.declared.CounterTransition.{CounterTransition}
 use Rattle.counters.specs.Layout.{holds}
-use Rattle.counters.specs.Calls.{changed, batchCall}
+use Rattle.counters.specs.Calls.{effect, batchCall}
 use Rattle.counters.specs.Steps.{transition}
 use Rattle.counters.specs.LayoutLaws.{held}
 use Rattle.counters.specs.JudgeLaws.{judge-broken}
@@ -67,7 +67,7 @@ module _ (c : Counters) (t₀ : List ℕ) (bs : List CounterTransition) (s : Wal
       ]
 
   -- no record is left
-  pub inv-end : length bs ≤ s .at → changed (finished s) t ≡ batchCall c t₀ (wordsOf bs)
+  pub inv-end : length bs ≤ s .at → effect (finished s) t ≡ batchCall c t₀ (wordsOf bs)
   inv-end h =
       elim (inv .at-phase) [
         | looking l ↦ absurd (omega (arith, l .here))

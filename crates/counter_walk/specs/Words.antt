@@ -15,7 +15,7 @@ use Rattle.counters.specs.declared.Applied.{Applied}
 use Rattle.counters.specs.declared.Counters.{Counters}
 use Rattle.counters.specs.declared.CounterTransition.{CounterTransition}
 use Rattle.counters.specs.Batch.{applyBatch}
-use Rattle.counters.specs.Calls.{Changed, onState, laidOut, changed, batchCall}
+use Rattle.counters.specs.Calls.{Changed, onState, laidOut, effect, batchCall}
 use Rattle.counters.specs.Layout.{transitionRow, roomOf, batchOf}
 use Rattle.counters.specs.Steps.{transitions}
 
@@ -62,7 +62,7 @@ module _ (ts : List CounterTransition) where
       unfolding batchCall
       forms-agree = rw (spelled, words-batch)
 
-      pub same-answers : (r r′ : Applied) (u u′ : List ℕ) → changed r u ≡ batchCall c t ws → changed r′ u′ ≡ batchCall c t (wordsOf ts) → (r ≡ r′) × (u ≡ u′)
+      pub same-answers : (r r′ : Applied) (u u′ : List ℕ) → effect r u ≡ batchCall c t ws → effect r′ u′ ≡ batchCall c t (wordsOf ts) → (r ≡ r′) × (u ≡ u′)
       same-answers r r′ u u′ e f =
-          let same : changed r u ≡ changed r′ u′ = e ∙ forms-agree ∙ sym f in
+          let same : effect r u ≡ effect r′ u′ = e ∙ forms-agree ∙ sym f in
           (ap (λ (x : Changed). x .result) same, ap (λ (x : Changed). x .table) same)

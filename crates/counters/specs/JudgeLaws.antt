@@ -24,7 +24,7 @@ use Rattle.counters.specs.Maintenance.{rises, falls}
 use Rattle.counters.specs.Batch.{changes, birth, death, kept, named, unallocated, falseOld, births, deaths, offTotal, countsAfter, stateAfter, applyKept, applyBatch}
 use Rattle.counters.specs.Layout.{countRow, transitionRow, roomOf, recordOf, tableOf, stateOf, holds, batchOf}
 use Rattle.counters.specs.LayoutLaws.{held}
-use Rattle.counters.specs.Calls.{changed, onState, laidOut, laid, batchCall}
+use Rattle.counters.specs.Calls.{effect, onState, laidOut, laid, batchCall}
 use Rattle.counters.specs.Held.{Judged}
 use Rattle.counters.specs.Steps.{transitions}
 use Rattle.counters.specs.BatchLaws.{length-countsAfter}
@@ -38,12 +38,12 @@ few-kept p ws =
 
 module _ (c : Counters) (t ws : List ℕ) where
   -- the table holds no state
-  pub judge-broken : holds c t ≡ false → changed (record { answer = Refused Broken; counters = c }) t ≡ batchCall c t ws
+  pub judge-broken : holds c t ≡ false → effect (record { answer = Refused Broken; counters = c }) t ≡ batchCall c t ws
   unfolding batchCall onState laidOut
   judge-broken h = rw h
 
   -- the words are ragged
-  pub judge-ragged : holds c t ≡ true → (length ws % 3 ≡ 0 → ⊥) → changed (record { answer = Refused Broken; counters = c }) t ≡ batchCall c t ws
+  pub judge-ragged : holds c t ≡ true → (length ws % 3 ≡ 0 → ⊥) → effect (record { answer = Refused Broken; counters = c }) t ≡ batchCall c t ws
   unfolding batchCall onState laidOut batchOf
   judge-ragged h e = rw (h, ne-eqb (length ws % 3) 0 e)
 
@@ -62,7 +62,7 @@ module _ (c : Counters) (t ws : List ℕ) (h : holds c t ≡ true) (whole : leng
   whole-batch = batch-held c t ws (transitions ws) h (rw (eq-eqb (length ws % 3) 0 whole))
 
   refusal : (r : Refusal) → applyBatch (roomOf t) (stateOf c t) (transitions ws) ≡ refused r
-      → changed (record { answer = Refused r; counters = c }) t ≡ batchCall c t ws
+      → effect (record { answer = Refused r; counters = c }) t ≡ batchCall c t ws
   unfolding laidOut
   refusal r e = sym (whole-batch ∙ ap (laidOut c t) e)
 
@@ -71,7 +71,7 @@ module _ (c : Counters) (t ws : List ℕ) (h : holds c t ≡ true) (whole : leng
   unfolding applyBatch applyKept stateOf
   at-2 e = rw e
 
-  pub judge-unallocated : any (unallocated next) ks ≡ true → changed (record { answer = Refused Unallocated; counters = c }) t ≡ batchCall c t ws
+  pub judge-unallocated : any (unallocated next) ks ≡ true → effect (record { answer = Refused Unallocated; counters = c }) t ≡ batchCall c t ws
   judge-unallocated e = refusal Unallocated (at-2 e)
 
   module _ (e₂ : any (unallocated next) ks ≡ false) where
@@ -79,7 +79,7 @@ module _ (c : Counters) (t ws : List ℕ) (h : holds c t ≡ true) (whole : leng
     unfolding applyBatch applyKept stateOf
     at-3 e = rw (e₂, e)
 
-    pub judge-repeated : repeated (named ks) ≡ true → changed (record { answer = Refused Repeated; counters = c }) t ≡ batchCall c t ws
+    pub judge-repeated : repeated (named ks) ≡ true → effect (record { answer = Refused Repeated; counters = c }) t ≡ batchCall c t ws
     judge-repeated e = refusal Repeated (at-3 e)
 
     module _ (e₃ : repeated (named ks) ≡ false) where
@@ -87,7 +87,7 @@ module _ (c : Counters) (t ws : List ℕ) (h : holds c t ≡ true) (whole : leng
       unfolding applyBatch applyKept stateOf
       at-5 e = rw (e₂, e₃, e)
 
-      pub judge-false-old : any (falseOld es) ks ≡ true → changed (record { answer = Refused FalseOld; counters = c }) t ≡ batchCall c t ws
+      pub judge-false-old : any (falseOld es) ks ≡ true → effect (record { answer = Refused FalseOld; counters = c }) t ≡ batchCall c t ws
       judge-false-old e = refusal FalseOld (at-5 e)
 
       module _ (e₅ : any (falseOld es) ks ≡ false) where
@@ -95,7 +95,7 @@ module _ (c : Counters) (t ws : List ℕ) (h : holds c t ≡ true) (whole : leng
         unfolding applyBatch applyKept stateOf
         at-4 e = rw (e₂, e₃, e₅, e)
 
-        pub judge-off-total : offTotal (c .«live_cells») ks ≡ true → changed (record { answer = Refused OffTotal; counters = c }) t ≡ batchCall c t ws
+        pub judge-off-total : offTotal (c .«live_cells») ks ≡ true → effect (record { answer = Refused OffTotal; counters = c }) t ≡ batchCall c t ws
         judge-off-total e = refusal OffTotal (at-4 e)
 
         -- how many counts there are after it
@@ -116,7 +116,7 @@ module _ (c : Counters) (t ws : List ℕ) (h : holds c t ≡ true) (whole : leng
           unfolding applyBatch applyKept stateOf
           at-6 e = rw (e₂, e₃, e₅, e₄, e)
 
-          pub judge-full : ltb (roomOf t) (length (countsAfter ks es)) ≡ true → changed (record { answer = Refused TableFull; counters = c }) t ≡ batchCall c t ws
+          pub judge-full : ltb (roomOf t) (length (countsAfter ks es)) ≡ true → effect (record { answer = Refused TableFull; counters = c }) t ≡ batchCall c t ws
           judge-full e = refusal TableFull (at-6 e)
 
           at-0 : ltb (roomOf t) (length (countsAfter ks es)) ≡ false → applyBatch (roomOf t) (stateOf c t) (transitions ws) ≡ taken (stateAfter ks (stateOf c t))
@@ -128,7 +128,7 @@ module _ (c : Counters) (t ws : List ℕ) (h : holds c t ≡ true) (whole : leng
           judged e = record { holding = h; once = e₃; total = e₄; fits = omega (arith, ltb-false (length t / 2) (length (countsAfter ks es)) e) }
 
           pub judge-taken : ltb (roomOf t) (length (countsAfter ks es)) ≡ false
-              → changed (record { answer = Taken; counters = recordOf (stateAfter ks (stateOf c t)) }) (tableOf (length t) (stateAfter ks (stateOf c t))) ≡ batchCall c t ws
+              → effect (record { answer = Taken; counters = recordOf (stateAfter ks (stateOf c t)) }) (tableOf (length t) (stateAfter ks (stateOf c t))) ≡ batchCall c t ws
           unfolding laidOut laid
           judge-taken e = sym (whole-batch ∙ ap (laidOut c t) (at-0 e))
 

@@ -18,15 +18,16 @@ use Rattle.cell_nursery.specs.declared.Committed.{Committed}
 use Rattle.cell_nursery.specs.Entries.{State, empty, cellBytes}
 use Rattle.cell_nursery.specs.Delta.{Room, used, applyDelta}
 use Rattle.cell_nursery.specs.Layout.{recordOf, entriesTable, waitingTable, cellsTable, roomOf, stateOf, holds}
-use Rattle.cell_nursery.specs.Calls.{Changed, changed, laid, laidOut, newCall}
+use Rattle.cell_nursery.specs.Calls as nursery
+use Rattle.cell_nursery.specs.Calls.{Changed, laid, laidOut, newCall}
 use Rattle.cell_nursery.specs.HashLaws.{U64}
 use Rattle.cell_nursery.specs.LayoutLaws.{WellFormed, Held, held, length-entriesTable, length-waitingTable, length-cellsTable, stateOf-laid, holds-laid}
 use Rattle.cell_nursery.specs.EntryLaws.{well-empty, well-after, InRoom, room-after}
 use Rattle.format.specs.Record.{Decoding, decode}
-use Rattle.journal.specs.Journal.{readFrom, readJournal, readCall, readFrom-taken, readFrom-refused}
+use Rattle.journal.specs.Journal.{effect, readFrom, readJournal, readCall, readFrom-taken, readFrom-refused}
 use Rattle.journal_laws.specs.DeltaLaws.{delta-read, delta-fits, taken-accepted}
 use Rattle.journal_read.specs.declared.Step.{Step}
-use Rattle.journal_read.specs.Reading.{Stepped, stepped, beside, recordOn, recordCall, readIn, endOn, readOn}
+use Rattle.journal_read.specs.Reading.{Stepped, stepped, beside, recordOn, recordCall, endOn, readOn}
 use Rattle.journal_read.specs.RecordLaws.{U8, u8-drop, u8-part, decode-whole, not-refused}
 
 -- ---- the record at the start of what is left
@@ -81,13 +82,13 @@ module _ (hash : List ℕ → List ℕ) (s : List ℕ) (r₀ : Nursery) (es₀ w
 
     -- the reading ends here
     closed : (a : Answer) → readFrom hash (roomOf es₀ ws₀ cs₀) here applied place 0 (drop place s) ≡ record { state = here; applied = applied; place = place; ended = a }
-        → readIn (record { nursery = r; applied = applied; place = place; ended = a }) es ws cs ≡ readOn hash r₀ es₀ ws₀ cs₀ s
+        → effect (record { nursery = r; applied = applied; place = place; ended = a }) es ws cs ≡ readOn hash r₀ es₀ ws₀ cs₀ s
     unfolding readOn endOn laid
     closed a e =
         let h = is-held in
         rw (← x .leads, e, ← x .size-es, ← x .size-ws, ← x .size-cs, h .same-record, h .same-entries, h .same-waiting, h .same-cells)
 
-    pub finished : place ≡ length s → readIn (record { nursery = r; applied = applied; place = length s; ended = Taken }) es ws cs ≡ readOn hash r₀ es₀ ws₀ cs₀ s
+    pub finished : place ≡ length s → effect (record { nursery = r; applied = applied; place = length s; ended = Taken }) es ws cs ≡ readOn hash r₀ es₀ ws₀ cs₀ s
     unfolding readFrom
     finished e = rw (← e) (closed Taken (rw (e, drop-length s)))
 
@@ -114,13 +115,13 @@ module _ (hash : List ℕ → List ℕ) (s : List ℕ) (r₀ : Nursery) (es₀ w
               omega (arith, decode-whole rest hash d (u8-drop place s u) i .inside, length-drop place s)
 
       -- it was refused, or its delta was: nothing changed
-      pub stopped : (a : Refusal) → q .answer ≡ Refused a → readIn (record { nursery = q .nursery; applied = applied; place = place; ended = q .answer }) es' ws' cs' ≡ readOn hash r₀ es₀ ws₀ cs₀ s
+      pub stopped : (a : Refusal) → q .answer ≡ Refused a → effect (record { nursery = q .nursery; applied = applied; place = place; ended = q .answer }) es' ws' cs' ≡ readOn hash r₀ es₀ ws₀ cs₀ s
       unfolding recordCall recordOn laidOut laid
       stopped a ended = go (decode hash rest) refl on-rest
         where
           as-before : (k : ℕ) (y : Refusal) → stepped q es' ws' cs' ≡ beside k (laidOut r es ws cs (refused y))
               → readFrom hash (roomOf es₀ ws₀ cs₀) here applied place 0 rest ≡ record { state = here; applied = applied; place = place; ended = Refused y }
-              → readIn (record { nursery = q .nursery; applied = applied; place = place; ended = q .answer }) es' ws' cs' ≡ readOn hash r₀ es₀ ws₀ cs₀ s
+              → effect (record { nursery = q .nursery; applied = applied; place = place; ended = q .answer }) es' ws' cs' ≡ readOn hash r₀ es₀ ws₀ cs₀ s
           as-before k y f l =
               rw (
                 ap (λ (z : Stepped). z .result .answer) f,
@@ -133,12 +134,12 @@ module _ (hash : List ℕ → List ℕ) (s : List ℕ) (r₀ : Nursery) (es₀ w
 
           after : (d : Decoding) (o : Outcome State) → decode hash rest ≡ taken d → applyDelta (roomOf es ws cs) here (d .delta) ≡ o
               → stepped q es' ws' cs' ≡ beside (40 + d .stats .«payload_bytes») (laidOut r es ws cs o)
-              → readIn (record { nursery = q .nursery; applied = applied; place = place; ended = q .answer }) es' ws' cs' ≡ readOn hash r₀ es₀ ws₀ cs₀ s
+              → effect (record { nursery = q .nursery; applied = applied; place = place; ended = q .answer }) es' ws' cs' ≡ readOn hash r₀ es₀ ws₀ cs₀ s
           after d (refused y) i p f = as-before (40 + d .stats .«payload_bytes») y f (delta-ends hash (roomOf es₀ ws₀ cs₀) here applied place y d rest some-left i (rw room-same at p))
           after d (taken t) i p f = absurd (not-refused (sym (ap (λ (z : Stepped). z .result .answer) f) ∙ ended))
 
           go : (o : Outcome Decoding) → decode hash rest ≡ o → stepped q es' ws' cs' ≡ recordOn r es ws cs o
-              → readIn (record { nursery = q .nursery; applied = applied; place = place; ended = q .answer }) es' ws' cs' ≡ readOn hash r₀ es₀ ws₀ cs₀ s
+              → effect (record { nursery = q .nursery; applied = applied; place = place; ended = q .answer }) es' ws' cs' ≡ readOn hash r₀ es₀ ws₀ cs₀ s
           go (refused y) i f = as-before 0 y f (next-refused hash (roomOf es₀ ws₀ cs₀) here applied place y rest some-left i)
           go (taken d) i f = after d (applyDelta (roomOf es ws cs) here (d .delta)) i refl f
 
@@ -191,7 +192,7 @@ module _ (hash : List ℕ → List ℕ) (s : List ℕ) (r₀ : Nursery) (es₀ w
           go (taken d) i f = after d (applyDelta (roomOf es ws cs) here (d .delta)) i refl f
 
 -- ---- an empty nursery, made in tables of any content
-module _ (es ws cs : List ℕ) (c : Committed) (es' ws' cs' : List ℕ) (e : changed c es' ws' cs' ≡ newCall es ws cs) where
+module _ (es ws cs : List ℕ) (c : Committed) (es' ws' cs' : List ℕ) (e : nursery.effect c es' ws' cs' ≡ newCall es ws cs) where
   no-rows : used empty ≤ min (length es / 8) (length ws / 5)
   unfolding empty used
   no-rows = omega arith

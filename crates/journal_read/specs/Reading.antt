@@ -9,7 +9,7 @@ use Rattle.cell_nursery.specs.Layout.{roomOf, stateOf}
 use Rattle.cell_nursery.specs.Calls.{Changed, laid, laidOut}
 use Rattle.format.specs.Record.{Decoding, decode}
 use Rattle.journal.specs.declared.JournalRead.{JournalRead}
-use Rattle.journal.specs.Journal.{End, ReadIn, readFrom}
+use Rattle.journal.specs.Journal.{End, ReadIn, effect, readFrom}
 use Rattle.journal_read.specs.declared.Step.{Step}
 
 -- what a record did, and the tables after it
@@ -36,15 +36,11 @@ recordOn r es ws cs (taken d) =
 unfoldable pub recordCall : (List ℕ → List ℕ) → Nursery → List ℕ → List ℕ → List ℕ → List ℕ → Stepped
 recordCall hash r es ws cs bs = recordOn r es ws cs (decode hash bs)
 
--- the record of what reading returned and of the tables that it left, for its contract
-abbrev pub readIn : JournalRead → List ℕ → List ℕ → List ℕ → ReadIn
-readIn j es ws cs = record { result = j; entries = es; waiting = ws; cells = cs }
-
 -- how reading ended, its state laid out in tables of the same lengths
 unfoldable pub endOn : List ℕ → List ℕ → List ℕ → End → ReadIn
 endOn es ws cs e =
     let t = laid es ws cs (e .state) in
-    readIn (record { nursery = t .result .nursery; applied = e .applied; place = e .place; ended = e .ended }) (t .entries) (t .waiting) (t .cells)
+    effect (record { nursery = t .result .nursery; applied = e .applied; place = e .place; ended = e .ended }) (t .entries) (t .waiting) (t .cells)
 
 -- a journal read on from the state that the tables hold
 unfoldable pub readOn : (List ℕ → List ℕ) → Nursery → List ℕ → List ℕ → List ℕ → List ℕ → ReadIn

@@ -10,8 +10,8 @@ ghost use mathlib.Core.Path.{_≡_};
 ghost use mathlib.Core.Bool.{true};
 ghost use Rattle.blake3.specs.Spec.{hash};
 ghost use Rattle.cell_nursery.specs.Layout.{holds};
-ghost use Rattle.journal.specs.Journal.{readCall};
-ghost use Rattle.journal_read.specs.Reading.{stepped, recordCall, readIn, readOn};
+ghost use Rattle.journal.specs.Journal.{effect, readCall};
+ghost use Rattle.journal_read.specs.Reading.{stepped, recordCall, readOn};
 
 // What one record did: len is how many bytes it has, 0 where it is none.
 struct Step {
@@ -57,7 +57,7 @@ fn apply_record(r: Nursery, es: &mut [u64], ws: &mut [u64], cs: &mut [u8], s: &[
 // The records of s, on tables that hold a state. The place stays before the record that ends the reading.
 fn read_records(r: Nursery, es: &mut [u64], ws: &mut [u64], cs: &mut [u8], s: &[u8]) -> JournalRead
     requires { ⌜ holds r (now es) (now ws) (now cs) ≡ true ⌝ }
-    ensures { λ j. ⌜ readIn j (now (es .exit)) (now (ws .exit)) (now (cs .exit)) ≡ readOn hash r (now (es .entry)) (now (ws .entry)) (now (cs .entry)) (now (s .entry)) ⌝ }
+    ensures { λ j. ⌜ effect j (now (es .exit)) (now (ws .exit)) (now (cs .exit)) ≡ readOn hash r (now (es .entry)) (now (ws .entry)) (now (cs .entry)) (now (s .entry)) ⌝ }
 {
     let mut q = r;
     let mut applied = 0;
@@ -92,7 +92,7 @@ fn read_records(r: Nursery, es: &mut [u64], ws: &mut [u64], cs: &mut [u8], s: &[
 
 // Reads the journal s into an empty nursery, in tables of any content.
 pub fn read_journal(s: &[u8], es: &mut [u64], ws: &mut [u64], cs: &mut [u8]) -> JournalRead
-    ensures { λ j. ⌜ readIn j (now (es .exit)) (now (ws .exit)) (now (cs .exit)) ≡ readCall hash (now (s .entry)) (now (es .entry)) (now (ws .entry)) (now (cs .entry)) ⌝ }
+    ensures { λ j. ⌜ effect j (now (es .exit)) (now (ws .exit)) (now (cs .exit)) ≡ readCall hash (now (s .entry)) (now (es .entry)) (now (ws .entry)) (now (cs .entry)) ⌝ }
 {
     let fresh = nursery_table::new(es, ws, cs);
     read_records(fresh.nursery, es, ws, cs, s)

@@ -18,7 +18,7 @@ use Rattle.cell_nursery.specs.declared.Committed.{Committed}
 use Rattle.cell_nursery.specs.Entries.{cellBytes, insert, remove}
 use Rattle.cell_nursery.specs.Delta.{tooLong, present, used, full, stateAfter, applyDelta}
 use Rattle.cell_nursery.specs.Layout.{roomOf, stateOf, holds}
-use Rattle.cell_nursery.specs.Calls.{Changed, changed, laid, laidOut, onState, lengthWidth, deltaCall}
+use Rattle.cell_nursery.specs.Calls.{Changed, effect, laid, laidOut, onState, lengthWidth, deltaCall}
 use Rattle.cell_nursery.specs.LayoutLaws.{Held, number-entries, number-waiting, entries-keys, bytes-same}
 use Rattle.delta_items.specs.Walk.{insertsIn, insertsLen, itemsFit, deltaIn, longCell}
 use Rattle.delta_items.specs.WalkLaws.{delta-whole, delta-none, fit-inserts, inserts-cells, length-inserts, too-long}
@@ -29,7 +29,7 @@ abbrev pub refusedWith : Refusal → Nursery → Committed
 refusedWith n r = record { answer = Refused n; nursery = r }
 
 abbrev pub refusedAs : Refusal → Nursery → List ℕ → List ℕ → List ℕ → Changed
-refusedAs n r es ws cs = changed (refusedWith n r) es ws cs
+refusedAs n r es ws cs = effect (refusedWith n r) es ws cs
 
 width : (wide : Bool) → 0 < lengthWidth wide
 width true = omega arith

@@ -12,7 +12,7 @@ ghost use Rattle.base.specs.Logic.{any, elem, repeated};
 ghost use Rattle.rows.specs.Keys.{keys, firstFour};
 ghost use Rattle.cell_nursery.specs.Layout.{holds};
 ghost use Rattle.cell_nursery.specs.LayoutLaws.{EntriesHeld};
-ghost use Rattle.cell_nursery.specs.Calls.{changed, lengthWidth, deltaCall};
+ghost use Rattle.cell_nursery.specs.Calls.{effect, lengthWidth, deltaCall};
 ghost use Rattle.delta_items.specs.Walk.{insertsIn, insertsFit};
 ghost use Rattle.nursery_commit.specs.CommitLaws.{refusedWith};
 
@@ -50,7 +50,7 @@ pub fn apply_commit_held(
     items: &[u8],
 ) -> Committed
     requires { ⌜ holds r (now es) (now ws) (now cs) ≡ true ⌝ }
-    ensures { λ c. ⌜ changed c (now (es .exit)) (now (ws .exit)) (now (cs .exit)) ≡ deltaCall r (now (es .entry)) (now (ws .entry)) (now (cs .entry)) wide inserts removes (now (items .entry)) ⌝ }
+    ensures { λ c. ⌜ effect c (now (es .exit)) (now (ws .exit)) (now (cs .exit)) ≡ deltaCall r (now (es .entry)) (now (ws .entry)) (now (cs .entry)) wide inserts removes (now (items .entry)) ⌝ }
 {
     let End::At(at) = delta_items::removes_at(items, wide, inserts, removes) else {
         return refused(Refusal::Broken, r);
@@ -83,7 +83,7 @@ pub fn apply_commit(
     removes: u64,
     items: &[u8],
 ) -> Committed
-    ensures { λ c. ⌜ changed c (now (es .exit)) (now (ws .exit)) (now (cs .exit)) ≡ deltaCall r (now (es .entry)) (now (ws .entry)) (now (cs .entry)) wide inserts removes (now (items .entry)) ⌝ }
+    ensures { λ c. ⌜ effect c (now (es .exit)) (now (ws .exit)) (now (cs .exit)) ≡ deltaCall r (now (es .entry)) (now (ws .entry)) (now (cs .entry)) wide inserts removes (now (items .entry)) ⌝ }
 {
     if !nursery_checks::holds(r, es, ws, cs) {
         return refused(Refusal::Broken, r);

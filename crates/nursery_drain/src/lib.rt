@@ -10,7 +10,7 @@ ghost use mathlib.Core.Path.{_≡_};
 ghost use mathlib.Core.Bool.{true};
 ghost use Rattle.cell_nursery.specs.Drain.{promotionDelay};
 ghost use Rattle.cell_nursery.specs.Layout.{holds};
-ghost use Rattle.cell_nursery.specs.Calls.{drainedAs, drainCall};
+ghost use Rattle.cell_nursery.specs.Calls.{drainEffect, drainCall};
 
 // Draining at a round, where the record and the tables hold a state: for callers that own their tables.
 pub fn drain_promotable_held(
@@ -22,7 +22,7 @@ pub fn drain_promotable_held(
     out: &mut [u8],
 ) -> Drained
     requires { ⌜ holds r (now es) (now ws) (now cs) ≡ true ⌝ }
-    ensures { λ d. ⌜ drainedAs d (now (out .exit)) (now (ws .exit)) ≡ drainCall promotionDelay r (now (es .entry)) (now (ws .entry)) (now (cs .entry)) round (now (out .entry)) ⌝ }
+    ensures { λ d. ⌜ drainEffect d (now (out .exit)) (now (ws .exit)) ≡ drainCall promotionDelay r (now (es .entry)) (now (ws .entry)) (now (cs .entry)) round (now (out .entry)) ⌝ }
 {
     let k = due_rows(r, ws, round);
     if !rows_fit(r, es, ws, cs, k, out.len()) {
@@ -57,7 +57,7 @@ pub fn drain_promotable(
     round: u32,
     out: &mut [u8],
 ) -> Drained
-    ensures { λ d. ⌜ drainedAs d (now (out .exit)) (now (ws .exit)) ≡ drainCall promotionDelay r (now (es .entry)) (now (ws .entry)) (now (cs .entry)) round (now (out .entry)) ⌝ }
+    ensures { λ d. ⌜ drainEffect d (now (out .exit)) (now (ws .exit)) ≡ drainCall promotionDelay r (now (es .entry)) (now (ws .entry)) (now (cs .entry)) round (now (out .entry)) ⌝ }
 {
     if !nursery_checks::holds(r, es, ws, cs) {
         return Drained {

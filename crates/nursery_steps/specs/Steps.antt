@@ -13,7 +13,7 @@ use Rattle.cell_nursery.specs.declared.Nursery.{Nursery}
 use Rattle.cell_nursery.specs.Entries.{Entry, cellBytes}
 use Rattle.cell_nursery.specs.Delta.{used}
 use Rattle.cell_nursery.specs.Layout.{roomOf, stateOf, holds}
-use Rattle.cell_nursery.specs.Calls.{Changed, changed}
+use Rattle.cell_nursery.specs.Calls.{Changed, effect}
 
 -- the entry of a hash that is given by its words
 abbrev pub newEntry : Wide → ℕ → ℕ → List ℕ → Entry
@@ -21,7 +21,7 @@ newEntry hash idx born cell = record { hash = keyOf hash; idx = idx; born = born
 
 -- the record and the tables after a step
 abbrev pub left : Nursery → List ℕ → List ℕ → List ℕ → Changed
-left r es ws cs = changed (record { answer = Taken; nursery = r }) es ws cs
+left r es ws cs = effect (record { answer = Taken; nursery = r }) es ws cs
 
 -- the tables hold a state that lacks the entry's hash and leaves room for a row and the entry's cell
 pub record Insertable (r : Nursery) (es ws cs : List ℕ) (e : Entry) : Type 0 where

@@ -3,11 +3,11 @@ use base::Answer;
 use cell_nursery::Committed;
 use cell_nursery::Nursery;
 ghost use mathlib.Core.Path.{_≡_};
-ghost use Rattle.cell_nursery.specs.Calls.{changed, newCall};
+ghost use Rattle.cell_nursery.specs.Calls.{effect, newCall};
 
 // An empty nursery in tables of any content.
 pub fn new(es: &mut [u64], ws: &mut [u64], cs: &mut [u8]) -> Committed
-    ensures { λ r. ⌜ changed r (now (es .exit)) (now (ws .exit)) (now (cs .exit)) ≡ newCall (now (es .entry)) (now (ws .entry)) (now (cs .entry)) ⌝ }
+    ensures { λ r. ⌜ effect r (now (es .exit)) (now (ws .exit)) (now (cs .exit)) ≡ newCall (now (es .entry)) (now (ws .entry)) (now (cs .entry)) ⌝ }
 {
     let entries = es.len();
     word_slices::fill(es, 0, entries, 0);

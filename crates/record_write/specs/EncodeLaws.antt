@@ -21,8 +21,8 @@ use Rattle.delta_items.specs.Walk.{insertsIn, insertsLen, longCell, hashesIn, i
 use Rattle.delta_items.specs.WalkLaws.{delta-whole, delta-none, fit-inserts, fit-removes, length-inserts, length-hashes, too-long}
 use Rattle.format.specs.Payload.{payloadBytes}
 use Rattle.format.specs.Record.{hashed, recordBytes, statsOf, encode}
-use Rattle.format.specs.Calls.{encodedOut, encodeCall}
-use Rattle.record_write.specs.Laid.{laidAt, headBytes, refusedWith, outcome}
+use Rattle.format.specs.Calls.{effect, encodedOut, encodeCall}
+use Rattle.record_write.specs.Laid.{laidAt, headBytes, refusedWith}
 use Rattle.record_write.specs.ByteLaws.{Bytes, bytes-drop, hashes-bytes, length-insert-list, length-hash-list, few-cells, laid-three, laid-front, laid-part}
 
 -- a cell's length has bytes
@@ -79,17 +79,17 @@ module _ (id w n m : ℕ) (items : List ℕ) (fit : itemsFit w n m items ≡ tru
 -- ---- the answers
 
 module _ (hash : List ℕ → List ℕ) (long : (b : List ℕ) → length (hash b) ≡ 32) (id : ℕ) (wide : Bool) (n m : ℕ) (items out : List ℕ) where
-  pub encode-broken : itemsFit (lengthWidth wide) n m items ≡ false → encodeCall hash id wide n m items out ≡ outcome (refusedWith Broken) out
+  pub encode-broken : itemsFit (lengthWidth wide) n m items ≡ false → encodeCall hash id wide n m items out ≡ effect (refusedWith Broken) out
   unfolding encodeCall encodedOut
   encode-broken e = rw (delta-none (lengthWidth wide) n m items (width-some wide) e)
 
   module _ (fit : itemsFit (lengthWidth wide) n m items ≡ true) where
-    pub encode-long : tooLong (deltaIn (lengthWidth wide) n m items) ≡ true → encodeCall hash id wide n m items out ≡ outcome (refusedWith TooLong) out
+    pub encode-long : tooLong (deltaIn (lengthWidth wide) n m items) ≡ true → encodeCall hash id wide n m items out ≡ effect (refusedWith TooLong) out
     unfolding encodeCall encodedOut encode
     encode-long e = rw (delta-whole (lengthWidth wide) n m items fit, e)
 
     module _ (short : tooLong (deltaIn (lengthWidth wide) n m items) ≡ false) where
-      pub encode-full : length out < 40 + payloadLen (lengthWidth wide) n m items → encodeCall hash id wide n m items out ≡ outcome (refusedWith OutputFull) out
+      pub encode-full : length out < 40 + payloadLen (lengthWidth wide) n m items → encodeCall hash id wide n m items out ≡ effect (refusedWith OutputFull) out
       unfolding encodeCall encodedOut encode
       encode-full h =
           let l = length-record id (lengthWidth wide) n m items fit hash long in
@@ -102,7 +102,7 @@ module _ (hash : List ℕ → List ℕ) (long : (b : List ℕ) → length (hash 
       -- c bytes of cells
       pub encode-taken : (c : ℕ) → c ≡ cellBytes (insertsIn (lengthWidth wide) n items) → 40 + payloadLen (lengthWidth wide) n m items ≤ length out
           → encodeCall hash id wide n m items out
-          ≡ outcome
+          ≡ effect
           (record {
             answer = Taken;
             len = 40 + (16 + 46 * n + 32 * m + c);

@@ -8,7 +8,7 @@ use Rattle.base.specs.Bytes.{le32, le64}
 use Rattle.base.specs.declared.Answer.the-variants.{Refused}
 use Rattle.base.specs.declared.Refusal.{Refusal}
 use Rattle.format.specs.declared.Encoded.{Encoded}
-use Rattle.format.specs.Calls.{EncodedOut, noStats}
+use Rattle.format.specs.Calls.{noStats}
 
 -- the output with bytes from a place on
 abbrev pub laidAt : List ℕ → ℕ → List ℕ → List ℕ
@@ -20,7 +20,3 @@ headBytes payload id inserts removes = le64 payload ++ (le64 id ++ (le32 inserts
 
 abbrev pub refusedWith : Refusal → Encoded
 refusedWith r = record { answer = Refused r; len = 0; stats = noStats }
-
--- what the call returns, and the output after it
-abbrev pub outcome : Encoded → List ℕ → EncodedOut
-outcome r out = record { result = r; out = out }

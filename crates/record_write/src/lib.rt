@@ -28,9 +28,9 @@ ghost use Rattle.cell_nursery.specs.Calls.{lengthWidth};
 ghost use Rattle.delta_items.specs.Walk.{cellLen, insertLen, insertIn, insertsIn, insertsFit, longCell, deltaIn};
 ghost use Rattle.format.specs.Payload.{payloadBytes};
 ghost use Rattle.format.specs.Record.{hashed};
-ghost use Rattle.format.specs.Calls.{encodeCall};
+ghost use Rattle.format.specs.Calls.{effect, encodeCall};
 ghost use Rattle.record_write.specs.EncodeLaws.{Body};
-ghost use Rattle.record_write.specs.Laid.{laidAt, headBytes, refusedWith, outcome};
+ghost use Rattle.record_write.specs.Laid.{laidAt, headBytes, refusedWith};
 
 // What stands beside a refusal.
 fn refusal(r: Refusal) -> Encoded
@@ -126,7 +126,7 @@ pub fn encode_record(
     items: &[u8],
     out: &mut [u8],
 ) -> Encoded
-    ensures { λ r. ⌜ outcome r (now (out .exit)) ≡ encodeCall hash id wide inserts removes (now (items .entry)) (now (out .entry)) ⌝ }
+    ensures { λ r. ⌜ effect r (now (out .exit)) ≡ encodeCall hash id wide inserts removes (now (items .entry)) (now (out .entry)) ⌝ }
 {
     let End::At(end) = removes_at(items, wide, inserts, removes) else {
         return refusal(Refusal::Broken);

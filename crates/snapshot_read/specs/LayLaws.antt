@@ -17,12 +17,11 @@ use Rattle.base.specs.declared.Answer.the-variants.{Taken, Refused}
 use Rattle.slices.specs.Laws.{paste-start, paste-right, paste-two}
 use Rattle.rows.specs.Table.{tableOf}
 use Rattle.rows.specs.TableLaws.{rowsOf-table, length-table, laid-table, inserted}
-use Rattle.counters.specs.declared.Applied.{Applied}
 use Rattle.counters.specs.declared.Counters.{Counters}
 use Rattle.counters.specs.Counts.{Entry, freshMaintenance, fresh}
 use Rattle.counters.specs.Layout as layout
 use Rattle.counters.specs.Layout.{countRow, recordOf}
-use Rattle.counters.specs.Calls.{Changed, laid, laidOut}
+use Rattle.counters.specs.Calls.{laid, laidOut}
 use Rattle.counters.specs.Maintenance.{standard}
 use Rattle.snapshot.specs.Calls.{deserializeCall}
 use Rattle.snapshot_tiers.specs.declared.Head.{Head}
@@ -43,10 +42,6 @@ freshRecord next live stored base =
       stored = stored;
       maintenance = record { «alive_removed_since_shrink» = 0; «small_removed_since_shrink» = zeros 8; «min_alive_removed_before_shrink» = base };
     }
-
--- what the call returns, and the table after it
-abbrev pub changed : Applied → List ℕ → Changed
-changed r t = record { result = r; table = t }
 
 -- ---- a row behind the others
 module _ (len : ℕ) (es : List Entry) (i n : ℕ) (room : length es * 2 + 2 ≤ len) where

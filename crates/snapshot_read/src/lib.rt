@@ -22,9 +22,10 @@ ghost use Rattle.base.specs.Logic.{zeros};
 ghost use Rattle.rows.specs.Table.{tableOf};
 ghost use Rattle.counters.specs.Layout.{countRow};
 ghost use Rattle.counters.specs.Maintenance.{standard};
+ghost use Rattle.counters.specs.Calls.{effect};
 ghost use Rattle.snapshot.specs.Calls.{deserializeCall};
 ghost use Rattle.snapshot_judge.specs.Decide.{countsOf, Planned};
-ghost use Rattle.snapshot_read.specs.LayLaws.{freshRecord, changed};
+ghost use Rattle.snapshot_read.specs.LayLaws.{freshRecord};
 
 // The counts of both tiers go into a table of zeros, by index.
 fn lay(t: &mut [u64], s: &[u8], p: Plan)
@@ -70,7 +71,7 @@ fn record_of(next: u64, live: u64, stored: usize, base: u64) -> Counters
 
 // The counters that a snapshot holds, laid into the table. Where they are refused the record is all zeros.
 pub fn deserialize_trusted(s: &[u8], t: &mut [u64]) -> Applied
-    ensures { λ r. ⌜ changed r (now (t .exit)) ≡ deserializeCall (standard .base) (now (s .entry)) (now (t .entry)) ⌝ }
+    ensures { λ r. ⌜ effect r (now (t .exit)) ≡ deserializeCall (standard .base) (now (s .entry)) (now (t .entry)) ⌝ }
 {
     let len = t.len();
     let v = decide(s, len / 2);

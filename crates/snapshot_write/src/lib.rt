@@ -15,11 +15,12 @@ ghost use mathlib.Core.Path.{_≡_};
 ghost use mathlib.Core.Bool.{true};
 ghost use Prim.Native.Nat.{_≤_};
 ghost use lib.ListN.{length};
+ghost use Rattle.base.specs.Output.{effect};
 ghost use Rattle.roaring_rows.specs.PlaceLaws.{putAt};
 ghost use Rattle.counters.specs.Layout.{stateOf};
 ghost use Rattle.counters.specs.Layout as layout;
 ghost use Rattle.snapshot.specs.Write.{snapshotBytes};
-ghost use Rattle.snapshot.specs.Calls.{serializeCall, lengthCall, outcome};
+ghost use Rattle.snapshot.specs.Calls.{serializeCall, lengthCall};
 
 // The first byte of a snapshot.
 const VERSION: u8 = 1;
@@ -65,7 +66,7 @@ fn write_snapshot(out: &mut [u8], c: Counters, t: &[u64])
 // Writes the snapshot, where the record and the table hold a state.
 pub fn serialize_held(c: Counters, t: &[u64], out: &mut [u8]) -> Wrote
     requires { ⌜ layout.holds c (now t) ≡ true ⌝ }
-    ensures { λ r. ⌜ outcome r (now (out .exit)) ≡ serializeCall c (now (t .entry)) (now (out .entry)) ⌝ }
+    ensures { λ r. ⌜ effect r (now (out .exit)) ≡ serializeCall c (now (t .entry)) (now (out .entry)) ⌝ }
 {
     let len = serialized_len_held(c, t);
     if out.len() < len {
@@ -83,7 +84,7 @@ pub fn serialize_held(c: Counters, t: &[u64], out: &mut [u8]) -> Wrote
 
 // Writes the snapshot. Nothing beyond it is touched, and nothing at all beside a refusal.
 pub fn serialize(c: Counters, t: &[u64], out: &mut [u8]) -> Wrote
-    ensures { λ r. ⌜ outcome r (now (out .exit)) ≡ serializeCall c (now (t .entry)) (now (out .entry)) ⌝ }
+    ensures { λ r. ⌜ effect r (now (out .exit)) ≡ serializeCall c (now (t .entry)) (now (out .entry)) ⌝ }
 {
     if !holds(c, t) {
         return Wrote {

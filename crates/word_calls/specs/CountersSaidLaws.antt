@@ -16,8 +16,9 @@ use Rattle.counters.specs.declared.Applied.{Applied}
 use Rattle.counters.specs.declared.Got.{Got}
 use Rattle.counters.specs.declared.Shrunk.{Shrunk}
 use Rattle.counters.specs.Maintenance.{standard}
-use Rattle.counters.specs.Calls.{changed, made, newCall, allocCall, getCall, batchCall, shrinkCall}
-use Rattle.snapshot.specs.Calls.{serializeCall, deserializeCall, lengthCall, outcome}
+use Rattle.counters.specs.Calls.{effect, newEffect, newCall, allocCall, getCall, batchCall, shrinkCall}
+use Rattle.base.specs.Output as output
+use Rattle.snapshot.specs.Calls.{serializeCall, deserializeCall, lengthCall}
 use Rattle.state_words.specs.Words.{countersOf, countersWords, said, oneWord, decisions, writtenSaid}
 use Rattle.state_words.specs.WordLaws.{over-counters, not-counters}
 use Rattle.word_calls.specs.CountersSaid.{changedSaid, allocatedSaid, gotSaid, shrunkSaid, lengthFound, readSaid, newSaid, allocSaid, getSaid, batchSaid, shrinkSaid, lengthSaid, serializeSaid, deserializeSaid}
@@ -58,7 +59,7 @@ module _ (w : List ℕ) (h : length w ≡ 13 → ⊥) {r : ℕ} (p : r ≡ numbe
 
 -- ---- a record of 13 words, which c is
 module _ (w : List ℕ) (e : length w ≡ 13) where
-  pub new-said : (next : ℕ) (t : List ℕ) {c : Counters} {u v : List ℕ} → made c u ≡ newCall (standard .base) (record { 0 = next }) t → v ≡ countersWords c
+  pub new-said : (next : ℕ) (t : List ℕ) {c : Counters} {u v : List ℕ} → newEffect c u ≡ newCall (standard .base) (record { 0 = next }) t → v ≡ countersWords c
       → said 0 [] (v ∷ u ∷ []) ≡ newSaid next w t
   unfolding newSaid changedSaid
   new-said next t g q = rw q (ap changedSaid g ∙ over-counters w _ _ e)
@@ -74,7 +75,7 @@ module _ (w : List ℕ) (e : length w ≡ 13) where
     unfolding getSaid gotSaid
     get-said t i g p = rw (p .0, p .1) (ap gotSaid (g ∙ ap (λ (k : Counters). getCall k t (record { 0 = i })) s) ∙ over-counters w _ _ e)
 
-    pub batch-said : (t b : List ℕ) {x : Applied} {u v : List ℕ} → changed x u ≡ batchCall c t b → (r ≡ answerNumber (x .answer)) × (v ≡ countersWords (x .counters))
+    pub batch-said : (t b : List ℕ) {x : Applied} {u v : List ℕ} → effect x u ≡ batchCall c t b → (r ≡ answerNumber (x .answer)) × (v ≡ countersWords (x .counters))
         → said r [] (v ∷ u ∷ []) ≡ batchSaid w t b
     unfolding batchSaid changedSaid
     batch-said t b g p = rw (p .0, p .1) (ap changedSaid (g ∙ ap (λ (k : Counters). batchCall k t b) s) ∙ over-counters w _ _ e)
@@ -88,13 +89,13 @@ module _ (w : List ℕ) (e : length w ≡ 13) where
     unfolding lengthSaid lengthFound
     length-said t g p = rw (p .0, p .1) (ap lengthFound (g ∙ ap (λ (k : Counters). lengthCall k t) s) ∙ over-counters w _ _ e)
 
-    pub serialize-said : (t out : List ℕ) {x : Wrote} {u n : List ℕ} → outcome x u ≡ serializeCall c t out → (r ≡ answerNumber (x .answer)) × (n ≡ x .len ∷ [])
+    pub serialize-said : (t out : List ℕ) {x : Wrote} {u n : List ℕ} → output.effect x u ≡ serializeCall c t out → (r ≡ answerNumber (x .answer)) × (n ≡ x .len ∷ [])
         → said r (n ∷ []) (u ∷ []) ≡ serializeSaid w t out
     unfolding serializeSaid writtenSaid
     serialize-said t out g p = rw (p .0, p .1) (ap writtenSaid (g ∙ ap (λ (k : Counters). serializeCall k t out) s) ∙ over-counters w _ _ e)
 
   -- a snapshot that is taken, and one that is refused
-  module _ (bs t : List ℕ) {u : List ℕ} {x : Applied} (g : changed x u ≡ deserializeCall (standard .base) bs t) where
+  module _ (bs t : List ℕ) {u : List ℕ} {x : Applied} (g : effect x u ≡ deserializeCall (standard .base) bs t) where
     pub deserialize-taken : {v : List ℕ} → x .answer ≡ Taken → v ≡ countersWords (x .counters) → said 0 [] (v ∷ u ∷ []) ≡ deserializeSaid bs w t
     unfolding deserializeSaid readSaid
     deserialize-taken a q = rw q ((rw a at (ap (readSaid w) g)) ∙ over-counters w _ _ e)

@@ -4,22 +4,23 @@ use Prim.Native.Nat.{ℕ}
 use mathlib.Core.Path.{_≡_, ap}
 use mathlib.Core.List.{List, [], _∷_}
 use Rattle.base.specs.Answers.{answerNumber}
+use Rattle.base.specs.Output as output
 use Rattle.base.specs.Output.{Written}
 use Rattle.base.specs.declared.Wrote.{Wrote}
 use Rattle.cell_nursery.specs.declared.Committed.{Committed}
 use Rattle.cell_nursery.specs.declared.Drained.{Drained}
 use Rattle.cell_nursery.specs.declared.Found.{Found}
 use Rattle.cell_nursery.specs.declared.Data.{Data}
-use Rattle.cell_nursery.specs.Calls.{Changed, changed, DrainedOut, drainedAs, wrote}
+use Rattle.cell_nursery.specs.Calls.{Changed, effect, DrainedOut, drainEffect}
 use Rattle.state_words.specs.Words.{nurseryWords, said, bit, writtenSaid}
 use Rattle.word_calls.specs.NurserySaid.{committedSaid, drainedSaid, foundSaid, placedSaid}
 
-pub committed-said : {x : Committed} {es ws cs v : List ℕ} {y : Changed} {r : ℕ} → changed x es ws cs ≡ y
+pub committed-said : {x : Committed} {es ws cs v : List ℕ} {y : Changed} {r : ℕ} → effect x es ws cs ≡ y
     → (r ≡ answerNumber (x .answer)) × (v ≡ nurseryWords (x .nursery)) → said r [] (v ∷ es ∷ ws ∷ cs ∷ []) ≡ committedSaid y
 unfolding committedSaid
 committed-said e p = rw (p .0, p .1) (ap committedSaid e)
 
-pub drained-said : {x : Drained} {out ws v n : List ℕ} {y : DrainedOut} {r : ℕ} → drainedAs x out ws ≡ y
+pub drained-said : {x : Drained} {out ws v n : List ℕ} {y : DrainedOut} {r : ℕ} → drainEffect x out ws ≡ y
     → (r ≡ answerNumber (x .answer)) × (n ≡ x .len ∷ []) × (v ≡ nurseryWords (x .nursery)) → said r (n ∷ []) (v ∷ ws ∷ out ∷ []) ≡ drainedSaid y
 unfolding drainedSaid
 drained-said e p = rw (p .0, p .1, p .2) (ap drainedSaid e)
@@ -34,7 +35,7 @@ pub placed-said : {x y : Data} {n : List ℕ} {r : ℕ} → x ≡ y → (r ≡ a
 unfolding placedSaid
 placed-said e p = rw (p .0, p .1) (ap placedSaid e)
 
-pub written-said : {x : Wrote} {out n : List ℕ} {y : Written} {r : ℕ} → wrote x out ≡ y → (r ≡ answerNumber (x .answer)) × (n ≡ x .len ∷ [])
+pub written-said : {x : Wrote} {out n : List ℕ} {y : Written} {r : ℕ} → output.effect x out ≡ y → (r ≡ answerNumber (x .answer)) × (n ≡ x .len ∷ [])
     → said r (n ∷ []) (out ∷ []) ≡ writtenSaid y
 unfolding writtenSaid
 written-said e p = rw (p .0, p .1) (ap writtenSaid e)

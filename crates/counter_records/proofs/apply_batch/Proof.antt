@@ -53,7 +53,7 @@ use denote.Exit.{yes as still}
 use Rattle.counters.specs.declared.CounterTransition.{CounterTransition}
 use Rattle.counters.specs.declared.Counters.{Counters}
 use Rattle.counters.specs.declared.Applied.{Applied}
-use Rattle.counters.specs.Calls.{changed, batchCall}
+use Rattle.counters.specs.Calls.{effect, batchCall}
 use Rattle.counters.specs.Steps.{transition}
 use Rattle.counters.proofs.CounterTransition as T
 use Rattle.counters.proofs.CounterTransition.Laws as T′
@@ -169,7 +169,7 @@ module _ {M : Type 1} (𝓤 : URA M) (H : Heap 𝓤) (A : Atoms 𝓤) (W : Given
       let w = LL.owed K.the-type K′.the-laws c _ is-c .1 .1 .1 .0 .1 .1 in
       record { records = omega (arith, room₁ .1); words = omega (arith, room₀ .1); alive = w .0 .1; small = each-fits (c .maintenance .«small_removed_since_shrink») _ (w .1 .0 .1 .1) }
 
-  exits : (r : Applied) (w : Val) (zs : List ℕ) → length zs ≡ length ys → changed r zs ≡ batchCall c ys (wordsOf bs)
+  exits : (r : Applied) (w : Val) (zs : List ℕ) → length zs ≡ length ys → effect r zs ≡ batchCall c ys (wordsOf bs)
       → ent 𝓤 (⋆ 𝓤 H A (‵ (R.the-row .own r (w ∷ [])) ∷ ‵ (Own₀ zs) ∷ ‵ (flft κ₀ q₀) ∷ ‵ Own₁ ∷ ‵ (flft κ₁ q₁) ∷ [])) (Post w)
   exits r w zs l e =
       qed W (‵ (R.the-row .own r (w ∷ [])) ∷ ‵ (Own₀ zs) ∷ ‵ (flft κ₀ q₀) ∷ ‵ Own₁ ∷ ‵ (flft κ₁ q₁) ∷ []) ∵
@@ -269,7 +269,7 @@ module _ {M : Type 1} (𝓤 : URA M) (H : Heap 𝓤) (A : Atoms 𝓤) (W : Given
         returns ! (look ! 30 refl) $ forget ! 10 refl $ forget ! 12 refl $ forget ! 22 refl $ forget ! 24 refl $ forget ! 26 refl $ forget ! 28 refl $ forget ! 30 refl $
         move ! (30 ∷ 31 ∷ []) $ free1 ! $ move ! (28 ∷ 29 ∷ []) $ free1 ! $ move ! (26 ∷ 27 ∷ []) $ free1 ! $ move ! (24 ∷ 25 ∷ []) $ free1 ! $ move ! (22 ∷ 23 ∷ []) $ free1 ! $ move ! (20 ∷ 21 ∷ []) $ free1 ! $ move ! (18 ∷ 19 ∷ []) $ free1 ! $ move ! (16 ∷ 17 ∷ []) $ free1 ! $ move ! (14 ∷ 15 ∷ []) $ free1 ! $ move ! (12 ∷ 13 ∷ []) $ free1 ! $ move ! (10 ∷ 11 ∷ []) $ free1 ! $ move ! (8 ∷ 9 ∷ []) $ free1 ! $ move ! (6 ∷ 7 ∷ []) $ free1 ! $ move ! (4 ∷ 5 ∷ []) $ free1 ! $ move ! (2 ∷ 3 ∷ []) $ free1 ! $ free0 ! $
         keep ! (0 ∷ 2 ∷ 3 ∷ 4 ∷ 5 ∷ []) $
-        by ! (exits r w (u .zs) (inv-len c ys bs (u .s) (u .zs) (u .inv) .0) (subst (λ (r′ : Applied). changed r′ (u .zs) ≡ batchCall c ys (wordsOf bs)) (sym e) (inv-end c ys bs (u .s) (u .zs) (u .inv) h)))))))
+        by ! (exits r w (u .zs) (inv-len c ys bs (u .s) (u .zs) (u .inv) .0) (subst (λ (r′ : Applied). effect r′ (u .zs) ≡ batchCall c ys (wordsOf bs)) (sym e) (inv-end c ys bs (u .s) (u .zs) (u .inv) h)))))))
 
     -- ---- a turn with one record
     module _ (u : Place) (h : u .s .at < length bs) where

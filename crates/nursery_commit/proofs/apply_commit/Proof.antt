@@ -1,6 +1,6 @@
 use borrow.Author.Tests.{not-true, not-false}
 use Rattle.cell_nursery.specs.declared.Committed.{Committed}
-use Rattle.cell_nursery.specs.Calls.{changed}
+use Rattle.cell_nursery.specs.Calls.{effect}
 use Rattle.nursery_commit.specs.CommitLaws.{commit-broken}
 use mathlib.Core.Path.{sym, ap, _∙_}
 use Prim.Native.Nat.{_-_}
@@ -26,7 +26,7 @@ same-length-3 c = search needs
 returns : tie.Need-returns
 returns c =
     let a = c .before .before .before .before .before .before .before .before .before .before .args in
-    ap (λ (x : Committed). changed x (a .es .now) (a .ws .now) (a .cs .now)) (c .refused .ensures)
+    ap (λ (x : Committed). effect x (a .es .now) (a .ws .now) (a .cs .now)) (c .refused .ensures)
     ∙ commit-broken (a .r) (a .es .now) (a .ws .now) (a .cs .now) (a .wide) (a .inserts) (a .removes) (a .items .now) (sym (c .before .before .holds .ensures) ∙ not-true _ (c .before .if1 .taken))
 
 apply-commit-held-requires : tie.Need-apply-commit-held-requires

@@ -5,7 +5,7 @@ use Rattle.base.specs.Logic.{all}
 use Rattle.cell_nursery.specs.declared.Committed.{Committed}
 use Rattle.cell_nursery.specs.Delta.{tooLong, present, full}
 use Rattle.cell_nursery.specs.Layout.{roomOf, stateOf}
-use Rattle.cell_nursery.specs.Calls.{changed, lengthWidth}
+use Rattle.cell_nursery.specs.Calls.{effect, lengthWidth}
 use Rattle.cell_nursery.specs.HashLaws.{U64}
 use Rattle.cell_nursery.specs.ItemLaws.{fitsItem}
 use Rattle.cell_nursery.specs.LayoutLaws.{Held, held}
@@ -84,7 +84,7 @@ returns : tie.Need-returns
 returns c =
     let s = c .before .before .before .before .before .before .before .before in
     let a = s .args in
-    ap (λ (x : Committed). changed x (a .es .now) (a .ws .now) (a .cs .now)) (c .refused .ensures)
+    ap (λ (x : Committed). effect x (a .es .now) (a .ws .now) (a .cs .now)) (c .refused .ensures)
     ∙ commit-past (a .r) (a .es .now) (a .ws .now) (a .cs .now) (a .wide) (a .inserts) (a .removes) (a .items .now) (s .pre)
     (removes-past (lengthWidth (a .wide)) (a .inserts) (a .removes) (a .items .now) (sym (c .before .before .before .removes-at .ensures) ∙ c .before .enum-told .given .1))
 
@@ -99,7 +99,7 @@ returns-2 c =
     let f = c .before .before .before .before in
     let s = f .before .before .before .before .before .before .before in
     let a = s .args in
-    ap (λ (x : Committed). changed x (a .es .now) (a .ws .now) (a .cs .now)) (c .refused2 .ensures)
+    ap (λ (x : Committed). effect x (a .es .now) (a .ws .now) (a .cs .now)) (c .refused2 .ensures)
     ∙ commit-long (a .r) (a .es .now) (a .ws .now) (a .cs .now) (a .wide) (a .inserts) (a .removes) (a .items .now) (s .pre) (fit f .0) (sym (c .before .before .any-too-long .ensures) ∙ c .before .if1 .taken)
 
 any-present-requires : tie.Need-any-present-requires
@@ -119,7 +119,7 @@ returns-3 c =
     let f = c .before .before .before .before .before .before .before in
     let s = f .before .before .before .before .before .before .before in
     let a = s .args in
-    ap (λ (x : Committed). changed x (a .es .now) (a .ws .now) (a .cs .now)) (c .refused3 .ensures)
+    ap (λ (x : Committed). effect x (a .es .now) (a .ws .now) (a .cs .now)) (c .refused3 .ensures)
     ∙ commit-present (a .r) (a .es .now) (a .ws .now) (a .cs .now) (a .wide) (a .inserts) (a .removes) (a .items .now) (s .pre) (fit f .0) (sym (c .before .before .before .before .before .any-too-long .ensures) ∙ c .before .before .before .before .if1 .left)
     (sym (present-same (a .r) (a .es .now) (a .ws .now) (a .cs .now) (holding f) (lengthWidth (a .wide)) (a .inserts) (a .removes) (a .items .now)) ∙ sym (c .before .before .any-present .ensures) ∙ c .before .if2 .taken)
 
@@ -144,7 +144,7 @@ returns-4 c =
     let f = g .before .before .before .before .before .before .before .before in
     let s = f .before .before .before .before .before .before .before in
     let a = s .args in
-    ap (λ (x : Committed). changed x (a .es .now) (a .ws .now) (a .cs .now)) (c .refused4 .ensures)
+    ap (λ (x : Committed). effect x (a .es .now) (a .ws .now) (a .cs .now)) (c .refused4 .ensures)
     ∙ commit-full (a .r) (a .es .now) (a .ws .now) (a .cs .now) (a .wide) (a .inserts) (a .removes) (a .items .now) (s .pre) (fit f .0) (short g) (fresh g) (sym (fills g) ∙ c .before .if3 .taken)
 
 apply-items-requires : tie.Need-apply-items-requires
