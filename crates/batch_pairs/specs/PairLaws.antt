@@ -17,11 +17,11 @@ use Rattle.counters.specs.Counts.{State}
 use Rattle.counters.specs.Maintenance.{maintained}
 use Rattle.counters.specs.Batch.{kept, stateAfter, applyKept, applyBatch}
 use Rattle.counters.specs.BatchLaws.{applyKept-order}
-use Rattle.counters.specs.Layout.{ordered, countRow, roomOf, withMaintenance, stateOf, holds, batchOf}
+use Rattle.counters.specs.Layout.{ordered, countRow, roomOf, withMaintenance, stateOf, holds, wordsOf, batchOf}
 use Rattle.counters.specs.LayoutLaws.{held}
+use Rattle.counters.specs.WordLaws.{words-batch}
 use Rattle.counters.specs.Calls.{Changed, effect, onState, laid, laidOut, batchCall}
 use Rattle.counters.specs.CallLaws.{batch-held, batch-accepted, batch-length, batch-taken-holds}
-use Rattle.counter_walk.specs.Words.{wordsOf, words-batch}
 use Rattle.snapshot.specs.Write.{snapshotBytes}
 use Rattle.snapshot.specs.Calls.{serializeCall}
 use Rattle.node_box.specs.Box.{Box, batch, withCounters, step, snapshotOf}

@@ -8,8 +8,7 @@ use Prim.Native.Nat.{ℕ}
 use Rattle.base.specs.declared.Answer.the-variants.{Taken}
 use Rattle.counters.specs.declared.CounterTransition.{CounterTransition}
 use Rattle.counters.specs.Batch.{kept}
-use Rattle.counters.specs.Layout.{batchOf, withMaintenance}
-use Rattle.counter_walk.specs.Words.{wordsOf}
+use Rattle.counters.specs.Layout.{withMaintenance, wordsOf, batchOf}
 use Rattle.node_box.specs.Box.{Box, batch, withCounters, step, snapshotOf}
 
 -- a transition with old and new exchanged
