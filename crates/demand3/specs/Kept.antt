@@ -28,7 +28,7 @@ use Rattle.cell_nursery.specs.Calls.{lengthWidth}
 use Rattle.cell_nursery.specs.HashLaws.{U64}
 use Rattle.journal_laws.specs.WaitLaws.{waiterFor, used-waits, waits-entry, waits-once}
 use Rattle.journal_laws.specs.DeltaLaws.{delta-read}
-use Rattle.node_box.specs.Box.{Box, Call, allocate, batch, delta, drain, get, shrink, serialize, lookup, listing, step, run, accepted, nurseryOf}
+use Rattle.node_box.specs.Box.{Box, Call, allocate, batch, batchRecords, delta, drain, get, shrink, adjust, measure, serialize, lookup, locate, listing, step, run, accepted, nurseryOf}
 use Rattle.node_box.specs.Demand.{typed, History, Typed, end}
 use Rattle.demand3.specs.States.{countersAfter, nurseryAfter}
 use Rattle.demand3.specs.CountersHeld.{counters-hold, counters-length}
@@ -57,6 +57,7 @@ bytes-after : (x : Call) (n : State) → typed x ≡ true → ByteCells (n .entr
 unfolding nurseryAfter drained stateAfter
 bytes-after allocate n t b = b
 bytes-after (batch words) n t b = b
+bytes-after (batchRecords ts) n t b = b
 bytes-after (delta id wide inserts removes items) n t b = go (deltaOf (lengthWidth wide) inserts removes items) refl
   where
     go : (o : Option Delta) → deltaOf (lengthWidth wide) inserts removes items ≡ o → ByteCells (maybe n (λ d. stateAfter d n) o .entries)
@@ -67,8 +68,11 @@ bytes-after (delta id wide inserts removes items) n t b = go (deltaOf (lengthWid
 bytes-after (drain round out) n t b = b
 bytes-after (get idx) n t b = b
 bytes-after (shrink saved) n t b = b
+bytes-after (adjust saved) n t b = b
+bytes-after measure n t b = b
 bytes-after (serialize out) n t b = b
 bytes-after (lookup hash) n t b = b
+bytes-after (locate hash) n t b = b
 bytes-after (listing out) n t b = b
 
 -- ---- after any calls

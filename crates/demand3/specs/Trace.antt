@@ -26,7 +26,7 @@ use Rattle.format.specs.Calls.{encodedOut, encodeCall}
 use Rattle.journal_laws.specs.WaitLaws.{Waits, waits-after, none-gone}
 use Rattle.journal_laws.specs.DeltaLaws.{Accepted, Read, delta-read}
 use Rattle.journal_laws.specs.ReadLaws.{accepted-again, bytesOf, wholeIn, applied-all, Applies, done, more}
-use Rattle.node_box.specs.Box.{Box, Call, allocate, batch, delta, drain, get, shrink, serialize, lookup, listing, step, accepted, listingOf}
+use Rattle.node_box.specs.Box.{Box, Call, allocate, batch, batchRecords, delta, drain, get, shrink, adjust, measure, serialize, lookup, locate, listing, step, accepted, listingOf}
 use Rattle.node_box.specs.Journal.{Logged, encoded, loggedOf, records, whole, listingAfter}
 use Rattle.node_box.specs.Demand.{typed}
 use Rattle.demand3.specs.States.{countersAfter, nurseryAfter}
@@ -153,12 +153,16 @@ module _ (hash : List ℕ → List ℕ) where
     unfolding loggedOf nurseryAfter drained
     traced-call allocate rs t e rest = rest u r
     traced-call (batch words) rs t e rest = rest u r
+    traced-call (batchRecords ts) rs t e rest = rest u r
     traced-call (delta id wide inserts removes items) rs t e rest = traced-delta id wide inserts removes items rs t e rest
     traced-call (drain round out) rs t e rest = rest u (record { same = r .same; waits = r .waits })
     traced-call (get idx) rs t e rest = rest u r
     traced-call (shrink saved) rs t e rest = rest u r
+    traced-call (adjust saved) rs t e rest = rest u r
+    traced-call measure rs t e rest = rest u r
     traced-call (serialize out) rs t e rest = rest u r
     traced-call (lookup key) rs t e rest = rest u r
+    traced-call (locate key) rs t e rest = rest u r
     traced-call (listing out) rs t e rest = rest u r
 
   pub traced : {z : Sizes} {b : Box} {c : counts.State} {n u : entries.State} (xs : List Call) → all typed xs ≡ true → Holds z b c n → Reads n u → Traced z u (records hash b xs)

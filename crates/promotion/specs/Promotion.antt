@@ -15,8 +15,8 @@ use Rattle.blake3.specs.Spec.{hash}
 use Rattle.cell_nursery.specs.Entries.{Entry}
 use Rattle.cell_nursery.specs.Items.{Delta, deltaOf}
 use Rattle.cell_nursery.specs.Drain.{promotionDelay, promoted, promotedBytes}
-use Rattle.cell_nursery.specs.Calls.{DrainedOut, lengthWidth, drainCall}
-use Rattle.node_box.specs.Box.{Box, Call, allocate, batch, delta, drain, get, shrink, serialize, lookup, listing, made, accepted, step, run, nurseryOf}
+use Rattle.cell_nursery.specs.Calls.{lengthWidth}
+use Rattle.node_box.specs.Box.{Box, Call, allocate, batch, batchRecords, delta, drain, get, shrink, adjust, measure, serialize, lookup, locate, listing, made, accepted, drainInto, step, run, nurseryOf}
 use Rattle.node_box.specs.Journal.{rebuild}
 use Rattle.node_box.specs.Demand.{typed}
 
@@ -30,12 +30,16 @@ pub data Reachable : Box → Type 0 where
 unfoldable pub lentDelta : Call → Option Delta
 lentDelta allocate = none
 lentDelta (batch words) = none
+lentDelta (batchRecords ts) = none
 lentDelta (delta id wide inserts removes items) = deltaOf (lengthWidth wide) inserts removes items
 lentDelta (drain round out) = none
 lentDelta (get idx) = none
 lentDelta (shrink saved) = none
+lentDelta (adjust saved) = none
+lentDelta measure = none
 lentDelta (serialize out) = none
 lentDelta (lookup h) = none
+lentDelta (locate h) = none
 lentDelta (listing out) = none
 
 -- the entries that it is to insert, and the hashes that it is to remove
@@ -49,12 +53,16 @@ removesOf x = maybe [] (λ d. d .removes) (lentDelta x)
 unfoldable pub roundOf : Call → Option ℕ
 roundOf allocate = none
 roundOf (batch words) = none
+roundOf (batchRecords ts) = none
 roundOf (delta id wide inserts removes items) = none
 roundOf (drain round out) = some round
 roundOf (get idx) = none
 roundOf (shrink saved) = none
+roundOf (adjust saved) = none
+roundOf measure = none
 roundOf (serialize out) = none
 roundOf (lookup h) = none
+roundOf (locate h) = none
 roundOf (listing out) = none
 
 -- the entries that a call hands out: those of an accepted drain
@@ -65,10 +73,6 @@ promotedBy b x = maybe [] (λ round. pick (accepted (step b x .0)) (promoted pro
 unfoldable pub promotedIn : Box → List Call → List Entry
 promotedIn b [] = []
 promotedIn b (x ∷ xs) = promotedBy b x ++ promotedIn (step b x .1) xs
-
--- the call of a drain at a round into an output of any content
-abbrev pub drainInto : Box → ℕ → List ℕ → DrainedOut
-drainInto b round out = drainCall promotionDelay (b .nursery) (b .entries) (b .waiting) (b .cells) round out
 
 -- one of the calls is accepted and passes a test
 unfoldable pub anyAccepted : (Call → Bool) → Box → List Call → Bool

@@ -25,13 +25,13 @@ use Rattle.cell_nursery.specs.Layout.{roomOf}
 use Rattle.cell_nursery.specs.Calls.{DrainedOut, drainedOut}
 use Rattle.journal.specs.Journal.{readJournal, readCall}
 use Rattle.journal_laws.specs.LoadLaws.{journal-loaded}
-use Rattle.node_box.specs.Box.{Box, Call, allocate, batch, delta, drain, get, shrink, serialize, lookup, listing, made, accepted, step, run, nurseryOf}
+use Rattle.node_box.specs.Box.{Box, Call, allocate, batch, batchRecords, delta, drain, get, shrink, adjust, measure, serialize, lookup, locate, listing, made, accepted, drainInto, step, run, nurseryOf}
 use Rattle.node_box.specs.Journal.{rebuild}
 use Rattle.node_box.specs.Demand.{typed}
 use Rattle.demand3.specs.States.{nurseryAfter}
 use Rattle.demand3.specs.NurseryHeld.{NurseryHeld, laid-held, new-nursery, nursery-state, delta-taken, drain-outcome}
 use Rattle.demand3.specs.Holding.{answer-taken, nursery-taken, refused-same}
-use Rattle.promotion.specs.Promotion.{Reachable, fresh, rebuilt, called, lentDelta, insertsOf, removesOf, roundOf, promotedBy, promotedIn, drainInto, anyAccepted, drainsFrom, removesHash, withHash, dueFrom, promotes, Inserted, PromotedOnce, Promotion}
+use Rattle.promotion.specs.Promotion.{Reachable, fresh, rebuilt, called, lentDelta, insertsOf, removesOf, roundOf, promotedBy, promotedIn, anyAccepted, drainsFrom, removesHash, withHash, dueFrom, promotes, Inserted, PromotedOnce, Promotion}
 use Rattle.promotion.specs.TrackLaws.{Tracked, track-delta, track-new, track-drain, track-promoted}
 
 -- ---- a box that can be reached holds a nursery's state
@@ -78,14 +78,18 @@ module _ {e : Entry} {out : Bool} {b : Box} (f : Follows e out b) where
   unfolding nurseryAfter roundOf lentDelta step
   track-taken allocate a n = rw (or-none out) (f .tracked)
   track-taken (batch words) a n = rw (or-none out) (f .tracked)
+  track-taken (batchRecords ts) a n = rw (or-none out) (f .tracked)
   track-taken (delta id wide inserts removes items) a n =
       let d = delta-taken (f .held .held) wide inserts removes items (answer-taken _ a) in
       rw (or-none out, d .spelled) (track-delta e (d .change) (f .held .state) (d .accepted .new) (rw (d .spelled) at n) out (f .tracked))
   track-taken (drain round o) a n = track-drain promotionDelay round e out (f .held .state) (f .tracked)
   track-taken (get idx) a n = rw (or-none out) (f .tracked)
   track-taken (shrink saved) a n = rw (or-none out) (f .tracked)
+  track-taken (adjust saved) a n = rw (or-none out) (f .tracked)
+  track-taken measure a n = rw (or-none out) (f .tracked)
   track-taken (serialize o) a n = rw (or-none out) (f .tracked)
   track-taken (lookup k) a n = rw (or-none out) (f .tracked)
+  track-taken (locate k) a n = rw (or-none out) (f .tracked)
   track-taken (listing o) a n = rw (or-none out) (f .tracked)
 
   follow-step : (x : Call) → typed x ≡ true → (accepted (step b x .0) && removes e x) ≡ false → Follows e (out || (accepted (step b x .0) && drains e x)) (step b x .1)
@@ -141,12 +145,16 @@ undrained : {e : Entry} (x : Call) → Among e (insertsOf x) → roundOf x ≡ n
 unfolding roundOf lentDelta
 undrained allocate m = refl
 undrained (batch words) m = refl
+undrained (batchRecords ts) m = refl
 undrained (delta id wide inserts removes items) m = refl
 undrained (drain round out) m = elim m [ ]
 undrained (get idx) m = refl
 undrained (shrink saved) m = refl
+undrained (adjust saved) m = refl
+undrained measure m = refl
 undrained (serialize out) m = refl
 undrained (lookup key) m = refl
+undrained (locate key) m = refl
 undrained (listing out) m = refl
 
 module _ {e : Entry} {b : Box} (h : Held b) where
@@ -154,14 +162,18 @@ module _ {e : Entry} {b : Box} (h : Held b) where
   unfolding lentDelta step nurseryAfter
   track-inserted allocate a m n = elim m [ ]
   track-inserted (batch words) a m n = elim m [ ]
+  track-inserted (batchRecords ts) a m n = elim m [ ]
   track-inserted (delta id wide inserts removes items) a m n =
       let d = delta-taken (h .held) wide inserts removes items a in
       rw (d .spelled) (track-new e (d .change) (h .state) (d .accepted .new) (rw (d .spelled) at n) (h .held .gone) (h .held .waits) (rw (d .spelled) at m))
   track-inserted (drain round out) a m n = elim m [ ]
   track-inserted (get idx) a m n = elim m [ ]
   track-inserted (shrink saved) a m n = elim m [ ]
+  track-inserted (adjust saved) a m n = elim m [ ]
+  track-inserted measure a m n = elim m [ ]
   track-inserted (serialize out) a m n = elim m [ ]
   track-inserted (lookup key) a m n = elim m [ ]
+  track-inserted (locate key) a m n = elim m [ ]
   track-inserted (listing out) a m n = elim m [ ]
 
   follow-insert : (x : Call) → typed x ≡ true → step b x .0 ≡ Taken → Among e (insertsOf x) → removes e x ≡ false → Follows e false (step b x .1)
