@@ -6,10 +6,9 @@ use mathlib.Core.List.{List, _∷_, map, append-nil}
 use Prim.Native.Nat.{ℕ, _+_, _-_, _*_, _/_, _^_, _≤_, _<_, min}
 use native.Mathlib.Numerals.{add-one}
 use native.Mathlib.Omega.{arith}
-use native.Mathlib.Decide.{decLe}
 use lib.ListN.{length, drop, getD, drop-of-length-le, length-replicate}
 use lib.Seq.{paste, getD-drop, drop-length}
-use lib.Dec.{leb, ltb, eqb}
+use lib.Dec.{ltb, eqb}
 use borrow.Author.Tests.{le-leb, lt-leb, le-ltb, lt-ltb, eq-eqb, ne-eqb}
 use Rattle.base.specs.Logic.{all, flat, sumOf, overlay, zeros, allZero, ascendingFrom, sortedFrom}
 use Rattle.base.specs.declared.Answer.the-variants.{Taken}

@@ -274,6 +274,10 @@ module _ (s : State) (o : ascending (map (λ e. e .hash) (s .entries)) ≡ true)
   pub tied-few : tied s ≡ true → length (s .waiting) ≤ length (s .entries)
   tied-few t = omega (arith, number-waits (goneOf s) s (tied-waits t))
 
+  -- and none of a hash that has no entry waits
+  pub tied-absent : tied s ≡ true → (h : ℕ) → elem h (map (λ e. e .hash) (s .entries)) ≡ false → keep (λ x. eqb (x .hash) h) (s .waiting) ≡ []
+  tied-absent t h a = waits-absent (goneOf s) s (tied-waits t) h a
+
   pub waits-tied : (gone : List Waiting) → Waits gone s → tied s ≡ true
   unfolding tied
   waits-tied gone w =

@@ -17,12 +17,12 @@ use Rattle.base.specs.declared.Refusal.the-variants.{ShortRecord, FarLength, Mi
 use Rattle.cell_nursery.specs.Entries.{State, empty}
 use Rattle.cell_nursery.specs.Items.{Delta, deltaOf}
 use Rattle.cell_nursery.specs.Delta.{Room, applyDelta}
+use Rattle.cell_nursery.specs.WaitLaws.{Waits, waits-empty, waits-after, none-gone}
 use Rattle.cell_nursery.specs.LayoutLaws.{WellFormed}
 use Rattle.cell_nursery.specs.EntryLaws.{well-empty, well-after, InRoom, room-empty, room-after}
 use Rattle.format.specs.Payload.{Payload, payloadOf}
 use Rattle.format.specs.Record.{Decoding, statsOf, decode}
 use Rattle.journal.specs.Journal.{readFrom, readJournal}
-use Rattle.journal_laws.specs.WaitLaws.{Waits, waits-empty, waits-after, none-gone}
 use Rattle.journal_laws.specs.DeltaLaws.{Gives, gives, gives-bind, gives-each, Bytes, le-bytes, Read, delta-read, delta-fits, taken-accepted}
 
 -- ---- the delta of a record
@@ -75,7 +75,7 @@ module _ (hash : List ℕ → List ℕ) (m : Room) where
       let fits = delta-fits 0 _ _ (d .delta) (omega arith) (decode-read hash bs d b e) (ok .short) in
       rw same
       (record {
-        well = well-after (d .delta) s (fits .inserts) (l .well);
+        well = well-after (d .delta) s (fits .inserts) (ok .new) (l .well);
         room = room-after m (d .delta) s (ok .fits);
         waits = rw (none-gone (d .delta .removes)) at (waits-after [] (d .delta) s (ok .new) (l .waits));
       })

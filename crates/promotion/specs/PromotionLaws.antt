@@ -58,7 +58,7 @@ reachable-held (fresh next t es ws cs) = record { le = length es; lw = length ws
 reachable-held (rebuilt snapshot journal t es ws cs b) =
     let l = journal-loaded hash (roomOf es ws cs) journal b in
     let s = readJournal hash (roomOf es ws cs) journal .state in
-    record { le = length es; lw = length ws; lc = length cs; state = s; held = unfold roomOf in (laid-held es ws cs s [] (l .well) (l .room) (l .waits)) }
+    record { le = length es; lw = length ws; lc = length cs; state = s; held = unfold roomOf in (laid-held es ws cs s (l .well) (l .room)) }
 reachable-held (called r x t) = held-step (reachable-held r) x t
 
 -- ---- the box follows the entry
@@ -156,7 +156,7 @@ module _ {e : Entry} {b : Box} (h : Held b) where
   track-inserted (batch words) a m n = elim m [ ]
   track-inserted (delta id wide inserts removes items) a m n =
       let d = delta-taken (h .held) wide inserts removes items a in
-      rw (d .spelled) (track-new e (d .change) (h .state) (d .accepted .new) (rw (d .spelled) at n) (h .held .gone) (h .held .waits) (rw (d .spelled) at m))
+      rw (d .spelled) (track-new e (d .change) (h .state) (d .accepted .new) (rw (d .spelled) at n) (h .held .well .hashes) (h .held .well .ties) (rw (d .spelled) at m))
   track-inserted (drain round out) a m n = elim m [ ]
   track-inserted (get idx) a m n = elim m [ ]
   track-inserted (shrink saved) a m n = elim m [ ]
