@@ -19,7 +19,8 @@ use Rattle.cell_nursery.specs.Delta.{Room, stateAfter, applyDelta}
 use Rattle.cell_nursery.specs.Items.{Delta, deltaOf}
 use Rattle.cell_nursery.specs.Drain.{promotionDelay, drained, drainBytes}
 use Rattle.cell_nursery.specs.Layout.{recordOf, entriesTable, waitingTable, cellsTable, roomOf, stateOf, holds, holdsEntries, holdsCells}
-use Rattle.cell_nursery.specs.LayoutLaws.{WellFormed, length-entriesTable, length-waitingTable, length-cellsTable, stateOf-laid, holds-laid, entries-laid, cells-laid}
+use Rattle.cell_nursery.specs.HashLaws.{U64}
+use Rattle.cell_nursery.specs.LayoutLaws.{WellFormed, held, number-entries, bytes-same, length-entriesTable, length-waitingTable, length-cellsTable, stateOf-laid, holds-laid, entries-laid, cells-laid}
 use Rattle.cell_nursery.specs.EntryLaws.{well-empty, well-after, well-drained, InRoom, room-empty, room-after}
 use Rattle.cell_nursery.specs.Calls.{Changed, DrainedOut, laid, laidOut, onState, newCall, lengthWidth, deltaCall, drainedOut, drainCall}
 use Rattle.journal_laws.specs.DeltaLaws.{Bytes, Accepted, delta-read, delta-fits, taken-accepted}
@@ -60,6 +61,22 @@ module _ {le lw lc : ℕ} {r : Nursery} {es ws cs : List ℕ} {s : State} (h : N
 
   pub cells-length : length cs ≡ lc
   cells-length = rw (h .same-cells) (length-cellsTable s le lw lc (h .well) (h .rows-fit) (h .cells-fit))
+
+-- those that hold a state, wherever they came from, are those of the state that they spell
+pub held-nursery : (r : Nursery) (es ws cs : List ℕ) → U64 es → U64 ws → holds r es ws cs ≡ true
+    → NurseryHeld (length es) (length ws) (length cs) r es ws cs (stateOf r es ws cs)
+unfolding stateOf
+held-nursery r es ws cs u v h =
+    let x = held r es ws cs u v h in
+    record {
+      same-record = sym (x .same-record);
+      same-entries = sym (x .same-entries);
+      same-waiting = sym (x .same-waiting);
+      same-cells = sym (x .same-cells);
+      well = x .well;
+      rows-fit = rw (number-entries r es cs) (x .room);
+      cells-fit = rw (bytes-same r es cs (x .entries) (x .cells)) (x .cells .fits);
+    }
 
 -- the same of what a call returns and leaves
 abbrev pub ChangedHeld : ℕ → ℕ → ℕ → Changed → State → Type 0
