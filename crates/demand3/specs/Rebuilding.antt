@@ -21,7 +21,7 @@ use Rattle.cell_nursery.specs.Layout.{recordOf, roomOf}
 use Rattle.cell_nursery.specs.Calls.{laid}
 use Rattle.cell_nursery.specs.EntryLaws.{well-empty, room-empty}
 use Rattle.journal.specs.Journal.{End, readJournal, readCall}
-use Rattle.journal_laws.specs.WaitLaws.{Waits, waits-empty}
+use Rattle.cell_nursery.specs.WaitLaws.{Waits, waits-empty}
 use Rattle.journal_laws.specs.ReadLaws.{endOf, Applies, applies-whole, applied-waits, applied-well, applied-fits, journal-cut}
 use Rattle.node_box.specs.Box.{Box, snapshotOf, listingOf}
 use Rattle.node_box.specs.Journal.{Logged, records, journalOf, whole, listingAfter, rebuild, cutEnd}
@@ -36,7 +36,7 @@ use Rattle.demand3.specs.Trace.{Step, logged, Traced, traced, wholeSteps
 module _ (a : History) (ok : Typed a) (k : ℕ) (short : k ≤ length (journalOf hash (start a) (a .calls))) where
   -- the journal's deltas, and those whose records are whole
   trace : Traced hash (sizesOf a) empty (records hash (start a) (a .calls))
-  trace = traced hash (a .calls) (ok .calls) (holds-start a ok) (record { same = refl; waits = waits-empty })
+  trace = traced hash (a .calls) (ok .calls) (holds-start a ok) refl
 
   applied-steps : List Step
   applied-steps = wholeSteps hash k (trace .steps)
@@ -85,8 +85,8 @@ module _ (a : History) (ok : Typed a) (k : ℕ) (short : k ≤ length (journalOf
     nursery-read : ChangedHeld (length es) (length ws) (length cs) (laid es ws cs state) state
     unfolding state
     nursery-read =
-        laid-held es ws cs state [] (applied-well hash (λ s. s .id) (λ s. s .change) room applies well-empty)
-        (rw (le, lw, lc) (applied-fits hash (λ s. s .id) (λ s. s .change) room applies (room-empty (room .entries) (room .cells)))) all-wait
+        laid-held es ws cs state (applied-well hash (λ s. s .id) (λ s. s .change) room applies well-empty)
+        (rw (le, lw, lc) (applied-fits hash (λ s. s .id) (λ s. s .change) room applies (room-empty (room .entries) (room .cells))))
 
     -- ---- the counters, read from the snapshot
     counters : counts.State

@@ -33,7 +33,6 @@ use Rattle.cell_nursery.specs.Items.{Delta, deltaOf}
 use Rattle.cell_nursery.specs.Delta.{Room, applyDelta}
 use Rattle.cell_nursery.specs.Drain.{promotionDelay, drainBytes, listingBytes}
 use Rattle.cell_nursery.specs.Calls.{lengthWidth}
-use Rattle.journal_laws.specs.WaitLaws.{used-waits}
 use Rattle.node_box.specs.Box.{Box, Call, allocate, batch, batchRecords, delta, drain, get, shrink, adjust, measure, serialize, lookup, locate, listing, step, countersOf, nurseryOf}
 use Rattle.node_box.specs.Demand.{History, Typed, end}
 use Rattle.demand3.specs.CountersHeld.{counters-state}
@@ -92,7 +91,7 @@ module _ (z : Sizes) (b : Box) (c : counts.State) (n : entries.State) where
   pub record DeltaRefusals (x : Call) (d : Delta) : Type 0 where
     pub too-long : (step b x .0 ≡ Refused TooLong) ↔ IsLong d
     pub present : (step b x .0 ≡ Refused Present) ↔ ((¬ IsLong d) × IsPresent n d)
-    pub nursery-full : (step b x .0 ≡ Refused NurseryFull) ↔ ((¬ IsLong d) × (¬ IsPresent n d) × IsFull (roomIn z) (length (n .entries)) n d)
+    pub nursery-full : (step b x .0 ≡ Refused NurseryFull) ↔ ((¬ IsLong d) × (¬ IsPresent n d) × IsFull (roomIn z) n d)
 
   pub record Refusals : Type 0 where
     pub spent : (step b allocate .0 ≡ Refused Spent) ↔ (c .next ≡ max64)
@@ -173,7 +172,7 @@ module _ {z : Sizes} {b : Box} {c : counts.State} {n : entries.State} (h : Holds
       record {
         too-long = says o said (delta-long (roomIn z) n d);
         present = says o said (delta-present (roomIn z) n d);
-        nursery-full = says o said (rw (used-waits (h .nursery .gone) n (h .nursery .waits)) at (delta-full (roomIn z) n d));
+        nursery-full = says o said (delta-full (roomIn z) n d);
       }
 
   -- the numbers of each call

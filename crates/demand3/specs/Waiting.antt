@@ -8,7 +8,7 @@ use Rattle.base.specs.Logic.{all, any, ascending}
 use Rattle.base.specs.Laws.{and-both}
 use Rattle.base.specs.ListLaws.{Among, here, there, any-some, some-weaker, any-map, all-cons, any-order}
 use Rattle.cell_nursery.specs.Entries.{Entry, Waiting, State, names, tied}
-use Rattle.journal_laws.specs.WaitLaws.{waiterFor, Waits, waits-entry, waits-once}
+use Rattle.cell_nursery.specs.WaitLaws.{waiterFor, Waits, waits-entry, waits-once}
 use Rattle.node_box.specs.Demand.{everyEntryWaits}
 
 -- a test that passes for each item passes for all
