@@ -20,9 +20,9 @@
  *   cells    a byte for each byte of their cells
  *
  * A state record in a slice of another length is SELVAIGO_BROKEN, before all else. Tables that hold no state in that layout are
- * SELVAIGO_BROKEN too. The check is a pass over the tables that the call is lent. A caller that lets nothing but these calls
- * write its records and tables may use the forms named .._held, which test neither. Over records of another length, or tables
- * that hold no state, these promise nothing, not even to stay within them. */
+ * SELVAIGO_BROKEN too. The check is a pass over the tables that the call is lent, and a look-up in the entries for each waiting
+ * row. A caller that lets nothing but these calls write its records and tables may use the forms named .._held, which test
+ * neither. Over records of another length, or tables that hold no state, these promise nothing, not even to stay within them. */
 #ifndef SELVAIGO_H
 #define SELVAIGO_H
 

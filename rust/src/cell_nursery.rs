@@ -325,16 +325,13 @@ impl CellNursery {
     }
 
     /// Hands out the waiting cells that are due at a round, by born round, then arrival; they stay as entries and wait no longer.
-    /// In a nursery that was made or read in, an entry that isn't removed is handed out once: by the first drain at a round of at least its born
-    /// round plus [`PROMOTION_DELAY_ROUNDS`].
+    /// An entry that isn't removed is handed out once: by the first drain after its insert at a round of at least its born round plus
+    /// [`PROMOTION_DELAY_ROUNDS`].
     pub fn drain_promotable(&mut self, round: u32, mut f: impl FnMut(HashBytes, Idx, &[u8])) {
         let due = self.due(round);
         let mut out = vec![0; 42 * due + self.cell_bytes().min(due.saturating_mul(65_535))];
-        let len = self.drain_promotable_into(round, &mut out).unwrap_or_else(|_| {
-            // Tables that came by `from_parts` may name one hash in many waiting rows.
-            out = vec![0; due.saturating_mul(42 + 65_535)];
-            self.drain_promotable_into(round, &mut out).expect("an output for the longest cells")
-        });
+        // No two waiting rows name the same entry.
+        let len = self.drain_promotable_into(round, &mut out).expect("an output for all that is due");
         PromotedCell::all(&out[..len]).for_each(|cell| f(cell.hash, cell.idx, cell.data));
     }
 

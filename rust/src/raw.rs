@@ -1,5 +1,5 @@
 //! The calls over records and tables that the caller lends, of any length and content: they are checked first, and what isn't in the
-//! layout of docs/LAYOUT.md is refused with [`Refusal::Broken`]. The check is a pass over what is lent.
+//! layout of docs/LAYOUT.md is refused with [`Refusal::Broken`]. The check is a pass over what is lent, and a look-up for each waiting row.
 use std::ops::Range;
 
 use crate::{DeltaItems, HashBytes, Idx, JournalEnd, NextIdx, RefCount, Refusal, Shrunk, size, sys};

@@ -141,8 +141,19 @@ fn broken_tables() {
     let mut n = CellNursery::new(2, 2);
     n.apply_commit(&insert(1, vec![1])).unwrap();
     let parts = n.into_parts();
-    let breaks: [fn(&mut NurseryParts); 4] =
-        [|p| p.nursery[2] = 0, |p| p.entries[8] = 1, |p| p.waiting[9] = 1, |p| p.cells[1] = 1];
+    // The last three: a waiting row that names no entry, one with another round than its entry's, two that name the same one.
+    let breaks: [fn(&mut NurseryParts); 7] = [
+        |p| p.nursery[2] = 0,
+        |p| p.entries[8] = 1,
+        |p| p.waiting[9] = 1,
+        |p| p.cells[1] = 1,
+        |p| p.waiting[4] = 2,
+        |p| p.entries[5] = 1,
+        |p| {
+            p.waiting.copy_within(0..5, 5);
+            p.nursery[1] = 2;
+        },
+    ];
     for breaks in breaks {
         let mut broken = parts.clone();
         breaks(&mut broken);

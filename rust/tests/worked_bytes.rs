@@ -136,19 +136,6 @@ fn drains_by_round_and_arrival() {
     assert_eq!(promoted(&mut n, 200), [(HashBytes([2; 32]), 20, b"b".to_vec())]);
 }
 
-// No box that started fresh has two waiting rows of one hash; tables from elsewhere may.
-#[test]
-fn waiting_rows_of_one_hash() {
-    let mut n = CellNursery::new(2, 4);
-    n.apply_commit(&inserts(vec![insert(1, 10, 0, b"four")])).unwrap();
-    let mut parts = n.into_parts();
-    parts.waiting.copy_within(0..5, 5);
-    parts.nursery[1] = 2;
-    let mut n = CellNursery::from_parts(parts).unwrap();
-    assert_eq!(promoted(&mut n, 100), vec![(HashBytes([1; 32]), 10, b"four".to_vec()); 2]);
-    assert_eq!(n.waiting_len(), 0);
-}
-
 #[test]
 fn inserts_precede_removes() {
     let mut n = CellNursery::new(2, 4);

@@ -17,15 +17,15 @@ use Rattle.counters.specs.Counts.{State}
 use Rattle.counters.specs.Maintenance.{maintained}
 use Rattle.counters.specs.Batch.{kept, stateAfter, applyKept, applyBatch}
 use Rattle.counters.specs.BatchLaws.{applyKept-order}
-use Rattle.counters.specs.Layout.{ordered, countRow, roomOf, withMaintenance, stateOf, holds, batchOf}
+use Rattle.counters.specs.Layout.{ordered, countRow, roomOf, withMaintenance, stateOf, holds, wordsOf, batchOf}
 use Rattle.counters.specs.LayoutLaws.{held}
+use Rattle.counters.specs.WordLaws.{words-batch}
 use Rattle.counters.specs.Calls.{Changed, effect, onState, laid, laidOut, batchCall}
 use Rattle.counters.specs.CallLaws.{batch-held, batch-accepted, batch-length, batch-taken-holds}
-use Rattle.counter_walk.specs.Words.{wordsOf, words-batch}
 use Rattle.snapshot.specs.Write.{snapshotBytes}
 use Rattle.snapshot.specs.Calls.{serializeCall}
 use Rattle.node_box.specs.Box.{Box, batch, withCounters, step, snapshotOf}
-use Rattle.batch_pairs.specs.Pairs.{exchanged, Inverse, batched, RolledBack, Pairs}
+use Rattle.batch_pairs.specs.Pairs.{exchanged, Inverse, batched, RolledBack, AcceptedEitherWay, SameEitherWay, Pairs}
 use Rattle.batch_pairs.specs.InverseLaws.{Passes, passes-taken, taken-passes, inverse-passes, inverse-state}
 use Rattle.batch_pairs.specs.OrderLaws.{states-either}
 
@@ -136,12 +136,13 @@ call-either-order c t ws vs p q r u =
 
 -- ---- of a box
 module _ (b : Box) (ws vs : List ℕ) where
-  box-rolled-back : (ts us : List CounterTransition) → batchOf ws ≡ some ts → batchOf vs ≡ some us → Inverse ts us → step b (batch ws) .0 ≡ Taken → RolledBack b ws vs
+  box-rolled-back : (ts us : List CounterTransition) → batchOf ws ≡ some ts → batchOf vs ≡ some us → Inverse ts us → step b (batch ws) .0 ≡ Taken → RolledBack b (batch ws) (batch vs)
   unfolding step withCounters
   box-rolled-back ts us w v inverse e =
       let x = call-rolled-back (b .counters) (b .counts) ws vs ts us w v inverse e in
       let m : CounterMaintenance = maintained (map exchanged (kept ts)) (maintained (kept ts) (b .counters .maintenance)) in
-      let left : batched (batched b ws) vs ≡ withCounters b (withMaintenance (b .counters) m) (b .counts) = ap (λ (y : Changed). withCounters b (y .result .counters) (y .table)) x in
+      let left : batched (batched b (batch ws)) (batch vs) ≡ withCounters b (withMaintenance (b .counters) m) (b .counts) =
+      ap (λ (y : Changed). withCounters b (y .result .counters) (y .table)) x in
       record {
         answer = ap (λ (y : Changed). y .result .answer) x;
         snapshot = ap snapshotOf left ∙ snapshot-maintenance b m;
@@ -149,13 +150,25 @@ module _ (b : Box) (ws vs : List ℕ) where
         threshold = rw left (unfold withMaintenance maintained in refl);
       }
 
+  box-either-order : AcceptedEitherWay b (batch ws) (batch vs) → SameEitherWay b (batch ws) (batch vs)
+  unfolding step withCounters
+  box-either-order a =
+      let same : batched (batched b (batch ws)) (batch vs) ≡ batched (batched b (batch vs)) (batch ws) =
+      ap (λ (y : Changed). withCounters b (y .result .counters) (y .table)) (call-either-order (b .counters) (b .counts) ws vs (a .one) (a .then-other) (a .other) (a .then-one)) in
+      record { snapshot = ap snapshotOf same; box = same }
+
+-- records step as their words do
 pub pairs : Pairs
-unfolding step withCounters
+unfolding step
 pairs =
     record {
       rolled-back = box-rolled-back;
-      records-rolled-back = λ b ts us. box-rolled-back b (wordsOf ts) (wordsOf us) ts us (words-batch ts) (words-batch us);
-      either-order = λ b ws vs p q r u.
-          let same : batched (batched b ws) vs ≡ batched (batched b vs) ws = ap (λ (y : Changed). withCounters b (y .result .counters) (y .table)) (call-either-order (b .counters) (b .counts) ws vs p q r u) in
-          record { snapshot = ap snapshotOf same; box = same };
+      records-rolled-back = λ b ts us i e.
+          let p = box-rolled-back b (wordsOf ts) (wordsOf us) ts us (words-batch ts) (words-batch us) i e in
+          record { answer = p .answer; snapshot = p .snapshot; box = p .box; threshold = p .threshold };
+      either-order = box-either-order;
+      records-either-order = λ b ts us a.
+          let p =
+          box-either-order b (wordsOf ts) (wordsOf us) (record { one = a .one; then-other = a .then-other; other = a .other; then-one = a .then-one }) in
+          record { snapshot = p .snapshot; box = p .box };
     }

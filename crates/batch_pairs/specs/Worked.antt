@@ -8,9 +8,9 @@ use lib.ListN.{replicate}
 use Rattle.base.specs.Logic.{zeros, max64}
 use Rattle.base.specs.Answers.{answerNumber}
 use Rattle.counters.specs.Steps.{transition}
-use Rattle.node_box.specs.Box.{Box, batch, made, withCounters, step, snapshotOf}
+use Rattle.node_box.specs.Box.{Box, batch, batchRecords, made, withCounters, step, snapshotOf}
 use Rattle.node_box.specs.Open.{evaluation}
-use Rattle.batch_pairs.specs.Pairs.{batched, RolledBack}
+use Rattle.batch_pairs.specs.Pairs.{RolledBack}
 use Rattle.batch_pairs.specs.PairLaws.{pairs}
 
 -- a fresh box at next index 4 with room for some counts, and the number that answers a batch
@@ -20,7 +20,10 @@ four room = made 4 (zeros (room + room)) [] [] []
 abbrev answer : Box → List ℕ → ℕ
 answer b ws = answerNumber (step b (batch ws) .0)
 
--- the box after two batches
+-- the box after a batch, and after two
+abbrev batched : Box → List ℕ → Box
+batched b ws = step b (batch ws) .1
+
 abbrev both : Box → List ℕ → List ℕ → Box
 both b ws vs = batched (batched b ws) vs
 
@@ -152,8 +155,14 @@ lines =
     }
 
 -- the first line by the law: its words spell a batch and an inverse of it
-pub by-law : RolledBack (four 2) first inverse
+pub by-law : RolledBack (four 2) (batch first) (batch inverse)
 unfolding evaluation
 by-law =
     pairs .rolled-back (four 2) first inverse (transition 1 0 3 ∷ transition 0 0 1 ∷ transition 9 7 7 ∷ []) (transition 0 1 0 ∷ transition 2 5 5 ∷ transition 1 3 0 ∷ [])
     refl refl (order-swap refl refl) refl
+
+-- and of the same batches as records
+pub records-by-law : RolledBack (four 2) (batchRecords (transition 1 0 3 ∷ transition 0 0 1 ∷ [])) (batchRecords (transition 0 1 0 ∷ transition 1 3 0 ∷ []))
+unfolding evaluation
+records-by-law =
+    pairs .records-rolled-back (four 2) (transition 1 0 3 ∷ transition 0 0 1 ∷ []) (transition 0 1 0 ∷ transition 1 3 0 ∷ []) (order-swap refl refl) refl

@@ -3,13 +3,12 @@
 use mathlib.Core.Path.{_≡_, refl, sym, ap₂, _∙_}
 use mathlib.Core.Bool.{Bool, true, false, _&&_, and-false}
 use mathlib.Core.List.{List, _∷_, map, append-nil}
-use Prim.Native.Nat.{ℕ, _+_, _-_, _*_, _/_, _^_, _≤_, _<_, min, max}
+use Prim.Native.Nat.{ℕ, _+_, _-_, _*_, _/_, _^_, _≤_, _<_, min}
 use native.Mathlib.Numerals.{add-one}
 use native.Mathlib.Omega.{arith}
-use native.Mathlib.Decide.{decLe}
 use lib.ListN.{length, drop, getD, drop-of-length-le, length-replicate}
 use lib.Seq.{paste, getD-drop, drop-length}
-use lib.Dec.{leb, ltb, eqb}
+use lib.Dec.{ltb, eqb}
 use borrow.Author.Tests.{le-leb, lt-leb, le-ltb, lt-ltb, eq-eqb, ne-eqb}
 use Rattle.base.specs.Logic.{all, flat, sumOf, overlay, zeros, allZero, ascendingFrom, sortedFrom}
 use Rattle.base.specs.declared.Answer.the-variants.{Taken}
@@ -18,10 +17,10 @@ use Rattle.rows.specs.Table.{rowsOf, tableOf, holdsRows}
 use Rattle.rows.specs.TableLaws.{length-rowsOf, drop-row}
 use Rattle.rows.specs.Keys.{firstFour, keys}
 use Rattle.cell_nursery.specs.declared.Nursery.{Nursery}
-use Rattle.cell_nursery.specs.Entries.{empty, cellBytes}
+use Rattle.cell_nursery.specs.Entries.{empty, tied, cellBytes}
 use Rattle.cell_nursery.specs.Calls.{effect, laid, newCall}
-use Rattle.cell_nursery.specs.Layout.{entryRows, cellsOf, recordOf, entriesTable, waitingTable, cellsTable, hashAt, EntryRow, entryRow, WaitingRow, waitingRow, roomOf, endToEnd, inBounds, byHash, byRound, holdsEntries, holdsWaiting, holdsCells, holds}
-use Rattle.cell_nursery.specs.LayoutLaws.{hashes-keys, ends-after, entries-held, waiting-held}
+use Rattle.cell_nursery.specs.Layout.{entryRows, cellsOf, recordOf, entriesTable, waitingTable, cellsTable, hashAt, EntryRow, entryRow, WaitingRow, waitingRow, roomOf, stateOf, endToEnd, inBounds, byHash, byRound, holdsEntries, holdsWaiting, holdsCells, holds}
+use Rattle.cell_nursery.specs.LayoutLaws.{hashes-keys, ends-after, entries-held}
 
 -- ---- row k of a table, and the rows from it on
 abbrev pub entryAtRow : List ℕ → ℕ → EntryRow
@@ -166,20 +165,16 @@ module _ (r : Nursery) (es ws cs : List ℕ) where
       holds-not-cells e = rw (a, b, e)
 
       module _ (c : holdsCells r cs ≡ true) where
-        -- each table has room for its own rows
+        -- the entries' table has room for its own rows
         pub holds-narrow : length ws / 5 < r .entries → false ≡ holds r es ws cs
         unfolding holds roomOf
-        holds-narrow e = rw (a, b, c, lt-leb (max (r .entries) (r .waiting)) (min (length es / 8) (length ws / 5)) (omega arith))
+        holds-narrow e = rw (a, b, c, lt-leb (r .entries) (min (length es / 8) (length ws / 5)) (omega arith))
 
-        pub holds-room : r .entries ≤ length ws / 5 → leb (r .waiting) (length es / 8) ≡ holds r es ws cs
+        pub holds-tied : r .entries ≤ length ws / 5 → tied (stateOf r es ws cs) ≡ holds r es ws cs
         unfolding holds roomOf
-        holds-room e =
+        holds-tied e =
             let x = entries-held r es a .laid .fits in
-            let y = waiting-held r ws b .laid .fits in
-            elim (decLe (r .waiting) (length es / 8)) [
-              | yes g ↦ rw (a, b, c, le-leb (r .waiting) (length es / 8) g, le-leb (max (r .entries) (r .waiting)) (min (length es / 8) (length ws / 5)) (omega arith))
-              | no g ↦ rw (a, b, c, lt-leb (r .waiting) (length es / 8) (omega arith), lt-leb (max (r .entries) (r .waiting)) (min (length es / 8) (length ws / 5)) (omega arith))
-            ]
+            rw (a, b, c, le-leb (r .entries) (min (length es / 8) (length ws / 5)) (omega arith))
 
 -- ---- an empty nursery: tables filled with zeros
 zeroed : (t : List ℕ) → paste t 0 (zeros (length t)) (length t) ≡ zeros (length t)

@@ -1,7 +1,7 @@
 -- What draining hands out: the first waiting rows, each with the entry of its hash where the rounds agree.
 -- Assumes nothing.
 use mathlib.Core.Path.{_≡_, refl, sym, ap, fun-ext, _∙_}
-use mathlib.Core.Bool.{Bool, true, false, not, _&&_}
+use mathlib.Core.Bool.{Bool, true, false, not}
 use mathlib.Core.List.{List, [], _∷_, _++_, map}
 use Prim.Native.Nat.{ℕ, suc, _+_, _-_, _≤_, _<_}
 use native.Mathlib.Omega.{arith}
@@ -16,7 +16,7 @@ use Rattle.base.specs.ListLaws.{keep-append, keep-swap, keep-whole, keep-empty,
 use Rattle.rows.specs.Keys.{place}
 use Rattle.rows.specs.KeyLaws.{keep-below, keep-from}
 use Rattle.rows.specs.RowLaws.{keep-absent}
-use Rattle.cell_nursery.specs.Entries.{Entry, Waiting}
+use Rattle.cell_nursery.specs.Entries.{Entry, Waiting, names}
 use Rattle.cell_nursery.specs.Drain.{due, named}
 use Rattle.cell_nursery.specs.EntryLaws.{entryAt}
 
@@ -60,7 +60,7 @@ module _ (delay round : ℕ) where
 
 -- a waiting row names the entry of its hash, where the rounds agree
 pub named-above : (w : Waiting) (lo : ℕ) (es : List Entry) → w .hash < lo → ascendingFrom lo (map (λ e. e .hash) es) ≡ true → named es w ≡ []
-unfolding named keep
+unfolding named names keep
 named-above w lo [] h o = refl
 named-above w lo (e ∷ es) h o =
     let l = ascending-head lo (e .hash) (map (λ x. x .hash) es) o in
@@ -68,7 +68,7 @@ named-above w lo (e ∷ es) h o =
 
 pub named-entryAt : (w : Waiting) (lo : ℕ) (es : List Entry) → ascendingFrom lo (map (λ e. e .hash) es) ≡ true
     → named es w ≡ maybe [] (λ e. pick (eqb (e .born) (w .born)) (e ∷ []) []) (entryAt (w .hash) es)
-unfolding named keep entryAt
+unfolding named names keep entryAt
 named-entryAt w lo [] o = refl
 named-entryAt w lo (e ∷ es) o =
     let r = ascending-tail lo (e .hash) (map (λ x. x .hash) es) o in
@@ -81,9 +81,9 @@ named-entryAt w lo (e ∷ es) o =
 module _ (h : ℕ) (es : List Entry) where
   -- a row names entries of its own hash
   named-hash : (w : Waiting) → keep (λ e. eqb (e .hash) h) (named es w) ≡ pick (eqb (w .hash) h) (named es w) []
-  unfolding named
+  unfolding named names
   named-hash w =
-      let q : Entry → Bool = λ e. eqb (e .hash) (w .hash) && eqb (e .born) (w .born) in
+      let q = names w in
       let own : (e : Entry) → q e ≡ true → e .hash ≡ w .hash = λ e t. eqb-true (e .hash) (w .hash) (and-left _ _ t) in
       elim (ℕ-discrete (w .hash) h) [
         | yes m ↦ rw (eq-eqb (w .hash) h m) (keep-whole (λ e. eqb (e .hash) h) q (λ e t. eq-eqb (e .hash) h (own e t ∙ m)) (keep q es) (all-kept q es))
@@ -104,9 +104,7 @@ module _ (h : ℕ) (es : List Entry) where
   module _ (absent : elem h (map (λ e. e .hash) es) ≡ false) where
     none-named : (w : Waiting) → keep (λ e. eqb (e .hash) h) (named es w) ≡ []
     unfolding named keep
-    none-named w =
-        let q : Entry → Bool = λ e. eqb (e .hash) (w .hash) && eqb (e .born) (w .born) in
-        keep-swap (λ e. eqb (e .hash) h) q es ∙ ap (λ (l : List Entry). keep q l) (keep-absent (λ e. e .hash) h es absent)
+    none-named w = keep-swap (λ e. eqb (e .hash) h) (names w) es ∙ ap (λ (l : List Entry). keep (names w) l) (keep-absent (λ e. e .hash) h es absent)
 
     pub named-absent : (ws : List Waiting) → keep (λ e. eqb (e .hash) h) (flat (named es) ws) ≡ []
     unfolding flat keep

@@ -10,18 +10,19 @@ use native.Mathlib.Decide.{decLe, ℕ-discrete}
 use lib.ListN.{length, getD, length-map}
 use lib.Dec.{leb, ltb, eqb}
 use borrow.Author.Tests.{lt-ltb, le-ltb, le-leb, lt-leb, eq-eqb, ne-eqb, eqb-false, ltb-false}
-use Rattle.base.specs.Logic.{pick, all, any, elem, fold, keep, sumOf, ascending, ascendingFrom, sortedFrom}
+use Rattle.base.specs.Logic.{pick, all, any, elem, fold, keep, repeated, sumOf, ascending, ascendingFrom, sortedFrom}
 use Rattle.base.specs.Maybe.{maybe}
 use Rattle.base.specs.Laws.{and-left, and-right, ascending-tail, ascending-sorted}
 use Rattle.rows.specs.Keys.{putRows}
 use Rattle.rows.specs.KeyLaws.{sorted-over}
-use Rattle.cell_nursery.specs.Entries.{Entry, Waiting, State, empty, cellBytes, putEntry, putWaiting, insert, remove}
+use Rattle.cell_nursery.specs.Entries.{Entry, Waiting, State, empty, tied, cellBytes, putEntry, putWaiting, insert, remove}
 use Rattle.cell_nursery.specs.Items.{Delta}
-use Rattle.cell_nursery.specs.Delta.{Room, used, full, stateAfter}
+use Rattle.cell_nursery.specs.Delta.{Room, present, full, stateAfter}
 use Rattle.cell_nursery.specs.Drain.{due, drained, lookup}
 use Rattle.base.specs.ListLaws.{eqb-sym, all-keep, ascending-keep}
 use Rattle.base.specs.SumLaws.{or-left, or-right, all-one, sum-keep, length-keep, keep-sorted}
 use Rattle.cell_nursery.specs.ItemLaws.{fitsItem, item-fits}
+use Rattle.cell_nursery.specs.WaitLaws.{goneOf, waits-insert, waits-remove, waits-drained, tied-waits, waits-tied, Absent, present-absent, first-absent, still-absent}
 use Rattle.cell_nursery.specs.LayoutLaws.{fitsWaiting, WellFormed}
 use Rattle.rows.specs.RowLaws.{put-one-ascending, put-one-sorted, all-put, sum-put, length-put, length-put-between, keep-absent}
 
@@ -205,18 +206,19 @@ unfolding fitsWaiting
 waiter-fits e f = let g = item-fits e f in rw (lt-ltb (e .hash) (2 ^ 256) (g .hash), lt-ltb (e .born) (2 ^ 32) (g .born))
 
 pub well-empty : WellFormed empty
-unfolding empty ascendingFrom sortedFrom all
-well-empty = record { hashes = refl; entries = refl; rounds = refl; waiting = refl }
+unfolding empty tied ascendingFrom sortedFrom all repeated
+well-empty = record { hashes = refl; entries = refl; rounds = refl; waiting = refl; ties = refl }
 
-pub well-insert : (e : Entry) (s : State) → fitsItem e ≡ true → WellFormed s → WellFormed (insert e s)
+pub well-insert : (e : Entry) (s : State) → fitsItem e ≡ true → elem (e .hash) (map (λ x. x .hash) (s .entries)) ≡ false → WellFormed s → WellFormed (insert e s)
 unfolding insert putEntry putWaiting
-well-insert e s f w =
+well-insert e s f a w =
     let x : Waiting = record { born = e .born; hash = e .hash } in
     record {
       hashes = hashes-insert e s (w .hashes);
       entries = all-put (λ y. y .hash) (e .hash) (suc (e .hash)) (e ∷ []) (s .entries) fitsItem (w .entries) (all-one fitsItem e f);
       rounds = rounds-insert e s (w .rounds);
       waiting = all-put (λ y. y .born) (suc (e .born)) (suc (e .born)) (x ∷ []) (s .waiting) fitsWaiting (w .waiting) (all-one fitsWaiting x (waiter-fits e f));
+      ties = waits-tied (insert e s) (hashes-insert e s (w .hashes)) (goneOf s) (waits-insert (goneOf s) e s a (tied-waits s (w .hashes) (w .ties)));
     }
 
 pub well-remove : (h : ℕ) (s : State) → WellFormed s → WellFormed (remove h s)
@@ -227,6 +229,7 @@ well-remove h s w =
       entries = all-keep fitsItem (λ e. not (eqb (e .hash) h)) (s .entries) (w .entries);
       rounds = rounds-remove h s (w .rounds);
       waiting = all-keep fitsWaiting (λ x. not (eqb (x .hash) h)) (s .waiting) (w .waiting);
+      ties = waits-tied (remove h s) (hashes-remove h s (w .hashes)) _ (waits-remove (goneOf s) h s (tied-waits s (w .hashes) (w .ties)));
     }
 
 pub well-drained : (delay round : ℕ) (s : State) → WellFormed s → WellFormed (drained delay round s)
@@ -238,59 +241,53 @@ well-drained delay round s w =
       entries = w .entries;
       rounds = keep-sorted left (λ x. x .born) 0 (s .waiting) (w .rounds);
       waiting = all-keep fitsWaiting left (s .waiting) (w .waiting);
+      ties = waits-tied (drained delay round s) (w .hashes) _ (waits-drained delay round (goneOf s) s (tied-waits s (w .hashes) (w .ties)));
     }
 
 -- ---- a whole delta
 
-inserts-well : (es : List Entry) (s : State) → all fitsItem es ≡ true → WellFormed s → WellFormed (fold insert es s)
+inserts-well : (es : List Entry) (s : State) → all fitsItem es ≡ true → Absent es s → WellFormed s → WellFormed (fold insert es s)
 unfolding fold all
-inserts-well [] s f w = w
-inserts-well (e ∷ es) s f w = inserts-well es (insert e s) (and-right (fitsItem e) _ f) (well-insert e s (and-left _ _ f) w)
+inserts-well [] s f a w = w
+inserts-well (e ∷ es) s f a w =
+    inserts-well es (insert e s) (and-right (fitsItem e) _ f) (still-absent e es s a) (well-insert e s (and-left _ _ f) (first-absent e es s a) w)
 
 removes-well : (hs : List ℕ) (s : State) → WellFormed s → WellFormed (fold remove hs s)
 unfolding fold
 removes-well [] s w = w
 removes-well (h ∷ hs) s w = removes-well hs (remove h s) (well-remove h s w)
 
-pub well-after : (d : Delta) (s : State) → all fitsItem (d .inserts) ≡ true → WellFormed s → WellFormed (stateAfter d s)
+-- one whose inserts are neither there nor come twice
+pub well-after : (d : Delta) (s : State) → all fitsItem (d .inserts) ≡ true → present s d ≡ false → WellFormed s → WellFormed (stateAfter d s)
 unfolding stateAfter
-well-after d s f w = removes-well (d .removes) (fold insert (d .inserts) s) (inserts-well (d .inserts) s f w)
-
--- rows and bytes in use: an insert adds at most a row and its cell, a remove nothing
-pub used-insert : (e : Entry) (s : State) → used (insert e s) ≤ suc (used s)
-unfolding used
-used-insert e s = omega (arith, number-insert-le e s, waiting-insert e s)
-
-pub used-remove : (h : ℕ) (s : State) → used (remove h s) ≤ used s
-unfolding used
-used-remove h s = omega (arith, number-remove h s, waiting-remove h s)
+well-after d s f p w = removes-well (d .removes) (fold insert (d .inserts) s) (inserts-well (d .inserts) s f (present-absent s d p) w)
 
 -- what the tables have room for
 pub record InRoom (rows bytes : ℕ) (s : State) : Type 0 where
-  pub rows-fit : used s ≤ rows
+  pub rows-fit : length (s .entries) ≤ rows
   pub bytes-fit : cellBytes (s .entries) ≤ bytes
 
 -- an empty nursery fits any tables
 pub room-empty : (rows bytes : ℕ) → InRoom rows bytes empty
-unfolding empty used cellBytes sumOf
+unfolding empty cellBytes sumOf
 room-empty rows bytes = record { rows-fit = omega arith; bytes-fit = omega arith }
 
-inserts-fit : (rows bytes : ℕ) (es : List Entry) (s : State) → used s + length es ≤ rows → cellBytes (s .entries) + cellBytes es ≤ bytes → InRoom rows bytes (fold insert es s)
+inserts-fit : (rows bytes : ℕ) (es : List Entry) (s : State) → length (s .entries) + length es ≤ rows → cellBytes (s .entries) + cellBytes es ≤ bytes → InRoom rows bytes (fold insert es s)
 unfolding fold cellBytes sumOf
 inserts-fit rows bytes [] s h g = record { rows-fit = omega arith; bytes-fit = omega arith }
 inserts-fit rows bytes (e ∷ es) s h g =
-    inserts-fit rows bytes es (insert e s) (omega (arith, used-insert e s)) (omega (arith, bytes-insert-le e s))
+    inserts-fit rows bytes es (insert e s) (omega (arith, number-insert-le e s)) (omega (arith, bytes-insert-le e s))
 
 removes-fit : (rows bytes : ℕ) (hs : List ℕ) (s : State) → InRoom rows bytes s → InRoom rows bytes (fold remove hs s)
 unfolding fold
 removes-fit rows bytes [] s f = f
 removes-fit rows bytes (h ∷ hs) s f =
-    removes-fit rows bytes hs (remove h s) (record { rows-fit = omega (arith, used-remove h s); bytes-fit = omega (arith, bytes-remove h s) })
+    removes-fit rows bytes hs (remove h s) (record { rows-fit = omega (arith, number-remove h s); bytes-fit = omega (arith, bytes-remove h s) })
 
 -- a delta that is not refused for want of room leaves a state that fits it
 pub room-after : (m : Room) (d : Delta) (s : State) → full m s d ≡ false → InRoom (m .entries) (m .cells) (stateAfter d s)
 unfolding full stateAfter
 room-after m d s e =
-    let rows = ltb-false (m .entries) (used s + length (d .inserts)) (or-left _ _ e) in
-    let bytes = ltb-false (m .cells) (cellBytes (s .entries) + cellBytes (d .inserts)) (or-right (ltb (m .entries) (used s + length (d .inserts))) _ e) in
+    let rows = ltb-false (m .entries) (length (s .entries) + length (d .inserts)) (or-left _ _ e) in
+    let bytes = ltb-false (m .cells) (cellBytes (s .entries) + cellBytes (d .inserts)) (or-right (ltb (m .entries) (length (s .entries) + length (d .inserts))) _ e) in
     removes-fit (m .entries) (m .cells) (d .removes) (fold insert (d .inserts) s) (inserts-fit (m .entries) (m .cells) (d .inserts) s rows bytes)

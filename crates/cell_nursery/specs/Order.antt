@@ -122,7 +122,7 @@ pub record RefusalBounds : Type 0 where
   full-waiting : items 16 9 0 2 0 (itemBytes (record { inserts = plain 1 ∷ plain 2 ∷ []; removes = [] })) ≡ 13
   not-full : items 16 10 0 2 0 (itemBytes (record { inserts = plain 1 ∷ plain 2 ∷ []; removes = [] })) ≡ 0
   -- 13: the smaller table counts after a draining too, as in a box read in every entry waits again
-  full-drained : answerNumber (deltaCall (recordOf drainedOne) (entriesTable 24 drainedOne) (waitingTable 5 drainedOne) [] false 1 0
+  full-drained : answerNumber (deltaCall (recordOf drainedOne) (entriesTable 16 drainedOne) (waitingTable 5 drainedOne) [] false 1 0
       (itemBytes (record { inserts = plain 2 ∷ []; removes = [] })) .result .answer) ≡ 13
   -- 13: cell bytes
   full-cells : delta empty 2 2 (entry 1 0 1 ∷ entry 2 0 2 ∷ []) [] ≡ 13
@@ -185,12 +185,20 @@ pub record RefusalBounds : Type 0 where
   lookup-broken : lookupCall (recordOf one) (entriesTable 8 one ++ 3 ∷ []) 1
       ≡ record { answer = Refused Broken; found = false; idx = record { 0 = 0 } }
 
--- a state record, and whether it and three tables hold a state: a draining at round 0 gives nothing, and 20 where they don't
+-- a state record
 abbrev recordAt : ℕ → ℕ → ℕ → Nursery
 recordAt entries waiting bytes = record { entries = entries; waiting = waiting; «cell_bytes» = bytes }
 
+-- the number that a record and three tables are given: at a draining into 84 bytes, and at a delta that inserts the hash 2 with no cell bytes
+abbrev drainAt : ℕ → Nursery → List ℕ → List ℕ → List ℕ → ℕ
+drainAt round r es ws cs = answerNumber (drainCall promotionDelay r es ws cs round (zeros 84) .result .answer)
+
+abbrev insertInto : Nursery → List ℕ → List ℕ → List ℕ → ℕ
+insertInto r es ws cs = answerNumber (deltaCall r es ws cs false 1 0 (itemBytes (record { inserts = plain 2 ∷ []; removes = [] })) .result .answer)
+
+-- whether they hold a state: a draining at round 0 gives nothing, and 20 where they don't
 abbrev check : Nursery → List ℕ → List ℕ → List ℕ → ℕ
-check r es ws cs = answerNumber (drainCall promotionDelay r es ws cs 0 [] .result .answer)
+check r es ws cs = drainAt 0 r es ws cs
 
 -- rows of the entries and of the waiting table, the hash below 2 ^ 64
 abbrev row : ℕ → ℕ → ℕ → ℕ → List ℕ
@@ -230,9 +238,17 @@ pub record BrokenTables : Type 0 where
   short-waiting : check (recordAt 1 1 1) (row 1 0 0 1) (take 4 (wait 0 1)) (9 ∷ []) ≡ 20
   short-cells : check (recordAt 1 1 1) (row 1 0 0 1) (wait 0 1) [] ≡ 20
   room-waiting : check (recordAt 1 0 1) (row 1 0 0 1) (zeros 4) (9 ∷ []) ≡ 20
-  -- a waiting row that names no entry is held; draining passes over it and takes it away
-  unnamed : drainCall promotionDelay (recordAt 0 1 0) (zeros 8) (wait 0 1) [] 100 []
-      ≡ record { result = record { answer = Taken; len = 0; nursery = recordAt 0 0 0 }; out = []; waiting = zeros 5 }
+  -- an entry waits or doesn't
+  waits : check (recordAt 1 1 0) (row 1 0 0 0) (wait 0 1) [] ≡ 0
+  waits-not : check (recordAt 1 0 0) (row 1 0 0 0) (zeros 5) [] ≡ 0
+  -- a waiting row that names no entry; a delta that would fit
+  unnamed : insertInto (recordAt 0 1 0) (zeros 8) (wait 0 5) [] ≡ 20
+  -- two waiting rows that name the same entry: it would be handed out twice
+  twice : insertInto (recordAt 1 2 0) (row 1 0 0 0 ++ zeros 16) (wait 0 1 ++ wait 0 1 ++ zeros 5) [] ≡ 20
+  twice-drained : drainAt 100 (recordAt 1 2 0) (row 1 0 0 0 ++ zeros 8) (wait 0 1 ++ wait 0 1) [] ≡ 20
+  -- a waiting row with another round than its entry's: it would be handed out never
+  other-round : insertInto (recordAt 1 1 0) (row 1 5 0 0 ++ zeros 8) (wait 0 1 ++ zeros 5) [] ≡ 20
+  other-round-drained : drainAt (2 ^ 32 - 1) (recordAt 1 1 0) (row 1 5 0 0) (wait 0 1) [] ≡ 20
 
 -- a delta with a long cell is given 14, whatever else is true of it
 long-first : (m : Room) (s : State) (d : Delta) → tooLong d ≡ true → answerNumber (answerOf (applyDelta m s d)) ≡ 14
@@ -342,5 +358,11 @@ broken-tables =
       short-waiting = refl;
       short-cells = refl;
       room-waiting = refl;
+      waits = refl;
+      waits-not = refl;
       unnamed = refl;
+      twice = refl;
+      twice-drained = refl;
+      other-round = refl;
+      other-round-drained = refl;
     }

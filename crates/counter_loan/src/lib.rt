@@ -1,8 +1,7 @@
 // The alive threshold of a lent record. The work is `shrink_rules`'s, by value; this form alters the record through the loan.
 use counters::CounterMaintenance;
 ghost use mathlib.Core.Path.{_≡_};
-ghost use Rattle.counters.specs.Maintenance.{standard};
-ghost use Rattle.counters.specs.MaintenanceLaws.{adjusted};
+ghost use Rattle.counters.specs.Maintenance.{standard, adjusted};
 
 // After an alive shrink that saved some bytes: of the lent record only the threshold moves.
 pub fn adjust_shrink_threshold(m: &mut CounterMaintenance, bytes_saved: u64)

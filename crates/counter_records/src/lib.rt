@@ -7,10 +7,10 @@ use counters::CounterTransition;
 use counters::Counters;
 use counters::NextIdx;
 ghost use mathlib.Core.Path.{_≡_};
+ghost use Rattle.counters.specs.Layout.{wordsOf};
 ghost use Rattle.counters.specs.Calls.{effect, batchCall};
 ghost use Rattle.counters.specs.Steps.{transition};
 ghost use Rattle.counter_walk.specs.Walk.{turned, turnedTable, finished, Ready};
-ghost use Rattle.counter_walk.specs.Words.{wordsOf};
 
 // A record, by the phase.
 fn turn(t: &mut [u64], s: Walk, idx: u64, old: u64, new: u64) -> Walk

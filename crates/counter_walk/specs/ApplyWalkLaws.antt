@@ -16,13 +16,13 @@ use Rattle.counters.specs.declared.Counters.{Counters}
 use Rattle.counters.specs.declared.CounterTransition.{CounterTransition}
 use Rattle.counters.specs.Counts.{Entry}
 use Rattle.counters.specs.Layout.{countRow}
+use Rattle.counters.specs.WordLaws.{words-transitions}
 use Rattle.counters.specs.Steps.{transition, applyOne}
 use Rattle.counters.specs.ApplyLaws.{two-passes}
 use Rattle.counter_walk.specs.declared.Phase.{Phase}
 use Rattle.counter_walk.specs.declared.Phase.the-variants.{Free, Store, End}
 use Rattle.counter_walk.specs.declared.Walk.{Walk}
 use Rattle.counter_walk.specs.SomeLaws.{Seen, seen-one, seen-all}
-use Rattle.counter_walk.specs.Words.{words-transitions}
 use Rattle.counter_walk.specs.Walk.{moved, applied, appliedTable, withRows}
 use Rattle.counter_walk.specs.InvWalkLaws.{entries, goal, Applying, applying, over, goal-fits, leftIn, Lands}
 use Rattle.counter_walk.specs.JudgeWalkLaws.{taken-over}

@@ -14,7 +14,8 @@ use Rattle.counters.specs.declared.CounterTransition.{CounterTransition}
 use Rattle.counters.specs.Counts.{Entry}
 use Rattle.counters.specs.Maintenance.{maintained}
 use Rattle.counters.specs.Batch.{kept, named, births, deaths, countsAfter, stateAfter}
-use Rattle.counters.specs.Layout.{countRow, holds, recordOf, tableOf, stateOf}
+use Rattle.counters.specs.Layout.{countRow, holds, recordOf, tableOf, stateOf, wordsOf}
+use Rattle.counters.specs.WordLaws.{words-transitions}
 use Rattle.counters.specs.Held.{Judged}
 use Rattle.counters.specs.Calls.{effect, batchCall}
 use Rattle.counters.specs.Steps.{some}
@@ -24,7 +25,6 @@ use Rattle.counter_walk.specs.declared.Phase.the-variants.{Look, Again, 
 use Rattle.counter_walk.specs.declared.Sums.{Sums}
 use Rattle.counter_walk.specs.declared.Walk.{Walk}
 use Rattle.counter_walk.specs.SomeLaws.{Seen}
-use Rattle.counter_walk.specs.Words.{wordsOf, words-transitions}
 use Rattle.counter_walk.specs.SumsWalkLaws.{sumsOf, noSums}
 use Rattle.counter_walk.specs.Walk.{finished}
 

@@ -19,7 +19,8 @@ use Rattle.counters.specs.declared.CounterTransition.{CounterTransition}
 use Rattle.counters.specs.Counts.{Entry}
 use Rattle.counters.specs.Maintenance.{falls, rises, maintained}
 use Rattle.counters.specs.Batch.{birth, death, kept, named, unallocated, falseOld, births, deaths, offTotal, countsAfter, stateAfter}
-use Rattle.counters.specs.Layout.{roomOf, recordOf, tableOf, stateOf}
+use Rattle.counters.specs.Layout.{roomOf, recordOf, tableOf, stateOf, wordsOf}
+use Rattle.counters.specs.WordLaws.{words-whole, words-transitions}
 use Rattle.counters.specs.Calls.{effect, batchCall}
 use Rattle.counters.specs.Steps.{transitions, some}
 use Rattle.counters.specs.JudgeLaws as judge
@@ -30,7 +31,6 @@ use Rattle.counter_walk.specs.declared.Phase.the-variants.{Free, End}
 use Rattle.counter_walk.specs.declared.Sums.{Sums}
 use Rattle.counter_walk.specs.declared.Walk.{Walk}
 use Rattle.counter_walk.specs.SomeLaws.{Seen, seen-all}
-use Rattle.counter_walk.specs.Words.{wordsOf, words-whole, words-transitions}
 use Rattle.counter_walk.specs.SumsWalkLaws.{sumsOf}
 use Rattle.counter_walk.specs.Walk as walk
 use Rattle.counter_walk.specs.Walk.{moved, ended, accepted, finished}

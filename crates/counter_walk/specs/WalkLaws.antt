@@ -11,7 +11,7 @@ use Rattle.base.specs.Logic.{pick}
 use Rattle.base.specs.declared.Refusal.the-variants.{Broken}
 use Rattle.counters.specs.declared.Counters.{Counters}
 use Rattle.counters.specs.declared.CounterTransition.{CounterTransition}
-use Rattle.counters.specs.Layout.{holds}
+use Rattle.counters.specs.Layout.{holds, wordsOf}
 use Rattle.counters.specs.Calls.{effect, batchCall}
 use Rattle.counters.specs.Steps.{transition}
 use Rattle.counters.specs.LayoutLaws.{held}
@@ -21,7 +21,6 @@ use Rattle.counter_walk.specs.declared.Phase.{Phase}
 use Rattle.counter_walk.specs.declared.Phase.the-variants.{Look, Again, Free, Store}
 use Rattle.counter_walk.specs.declared.Walk.{Walk}
 use Rattle.counter_walk.specs.SomeLaws.{one-has-room}
-use Rattle.counter_walk.specs.Words.{wordsOf}
 use Rattle.counter_walk.specs.SumsWalkLaws.{in-range}
 use Rattle.counter_walk.specs.Walk.{ended, onTo, started, begun, looked, askedAgain, turned, turnedTable, finished, ApplyReady, Ready}
 use Rattle.counter_walk.specs.InvWalkLaws.{Limits, SummedTo, Looking, Asking, goal, Applying, AtPhase, looking, asking, applying, over, Inv, goal-fits, pairs, leftIn, left, Lands}

@@ -23,7 +23,7 @@ use Rattle.counters.specs.declared.Counters.{Counters}
 use Rattle.counters.specs.declared.CounterMaintenance.{CounterMaintenance}
 use Rattle.counters.specs.Counts.{Entry, smallCode, inSet, members}
 use Rattle.counters.specs.declared.CounterTransition.{CounterTransition}
-use Rattle.counters.specs.Maintenance.{Settings, standard, adjustShrinkThreshold, setMinimum, shouldShrink, setsShrink, resetWhere, decide, shrunk, grown, grownSets, clears}
+use Rattle.counters.specs.Maintenance.{standard, adjustShrinkThreshold, adjusted, setMinimum, shouldShrink, setsShrink, resetWhere, decide, shrunk, grown, grownSets, clears}
 use Rattle.counters.specs.Layout.{countRow, withMaintenance, stateOf, holds}
 use Rattle.counters.specs.Calls.{onState, decided, shrinkCall}
 use Rattle.counters.specs.RowLaws.{rowAt, from-row}
@@ -88,15 +88,6 @@ module _ (k n : ℕ) (t : List ℕ) (i : ℕ) where
       rw (e, drop-length (rowsOf countRow n t))
 
 -- ---- the alive threshold
--- maintenance after an alive shrink that saved some bytes: the threshold moves
-abbrev pub adjusted : Settings → ℕ → CounterMaintenance → CounterMaintenance
-adjusted g saved m =
-    record {
-      «alive_removed_since_shrink» = m .«alive_removed_since_shrink»;
-      «small_removed_since_shrink» = m .«small_removed_since_shrink»;
-      «min_alive_removed_before_shrink» = adjustShrinkThreshold g saved (m .«min_alive_removed_before_shrink»);
-    }
-
 module _ (saved threshold : ℕ) where
   pub good-save : 1048576 ≤ saved → 131072 ≡ adjustShrinkThreshold standard saved threshold
   unfolding standard adjustShrinkThreshold

@@ -5,7 +5,7 @@ use rows::Wide;
 ghost use mathlib.Core.Path.{_≡_};
 ghost use mathlib.Core.Bool.{true, _||_};
 ghost use mathlib.Core.List.{map};
-ghost use Prim.Native.Nat.{_+_, _/_, _≤_, min, max};
+ghost use Prim.Native.Nat.{_+_, _/_, _≤_, min};
 ghost use lib.Dec.{ltb};
 ghost use lib.ListN.{length, drop};
 ghost use Rattle.base.specs.Logic.{any, elem, repeated};
@@ -84,21 +84,15 @@ pub fn any_repeated(wide: bool, inserts: u64, items: &[u8]) -> bool
     false
 }
 
-// Whether so many more rows, or so many more cell bytes, exceed tables of these lengths.
+// Whether so many more entries, or so many more cell bytes, exceed tables of these lengths.
 pub fn is_full(r: Nursery, es: usize, ws: usize, cs: usize, rows: u64, bytes: usize) -> bool
-    requires { ⌜ (max (r .entries) (r .waiting) ≤ min (es / 8) (ws / 5)) × (r .«cell_bytes» ≤ cs) ⌝ }
-    ensures { λ b. ⌜ b ≡ (ltb (min (es / 8) (ws / 5)) (max (r .entries) (r .waiting) + rows) || ltb cs (r .«cell_bytes» + bytes)) ⌝ }
+    requires { ⌜ (r .entries ≤ min (es / 8) (ws / 5)) × (r .«cell_bytes» ≤ cs) ⌝ }
+    ensures { λ b. ⌜ b ≡ (ltb (min (es / 8) (ws / 5)) (r .entries + rows) || ltb cs (r .«cell_bytes» + bytes)) ⌝ }
 {
     if ((es / 8 - r.entries) as u64) < rows {
         return true;
     }
-    if ((es / 8 - r.waiting) as u64) < rows {
-        return true;
-    }
     if ((ws / 5 - r.entries) as u64) < rows {
-        return true;
-    }
-    if ((ws / 5 - r.waiting) as u64) < rows {
         return true;
     }
     cs - r.cell_bytes < bytes

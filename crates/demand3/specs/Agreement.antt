@@ -25,7 +25,7 @@ use Rattle.cell_nursery.specs.Delta.{stateAfter}
 use Rattle.cell_nursery.specs.Drain.{drained}
 use Rattle.cell_nursery.specs.Calls.{lengthWidth}
 use Rattle.cell_nursery.specs.EntryLaws.{entryAt, entryAt-put, entryAt-removed}
-use Rattle.node_box.specs.Box.{Box, Call, allocate, batch, delta, drain, get, shrink, serialize, lookup, listing, step, run, accepted, answers}
+use Rattle.node_box.specs.Box.{Box, Call, allocate, batch, batchRecords, delta, drain, get, shrink, adjust, measure, serialize, lookup, locate, listing, step, run, accepted, answers}
 use Rattle.node_box.specs.Plain.{Plain, Cell, freshPlain, setAt, plainBatch, plainDelta, plainTaken, plainStep, runPlain}
 use Rattle.node_box.specs.Demand.{typed, History, Typed, end, plain}
 use Rattle.demand3.specs.States.{countersAfter, nurseryAfter}
@@ -114,6 +114,7 @@ agrees-taken (batch words) p c n a = go (batchOf words)
     go : (o : Option (List CounterTransition)) → Agrees (maybe p (λ ts. plainBatch (kept ts) p) o) (maybe c (λ ts. batches.stateAfter (kept ts) c) o) n
     go none = a
     go (some ts) = agrees-batch (kept ts) p c n a
+agrees-taken (batchRecords ts) p c n a = agrees-batch (kept ts) p c n a
 agrees-taken (delta id wide inserts removes items) p c n a = go (deltaOf (lengthWidth wide) inserts removes items)
   where
     go : (o : Option Delta) → Agrees (maybe p (λ d. plainDelta d p) o) c (maybe n (λ d. stateAfter d n) o)
@@ -122,8 +123,11 @@ agrees-taken (delta id wide inserts removes items) p c n a = go (deltaOf (length
 agrees-taken (drain round out) p c n a = record { next = a .next; live = a .live; count = a .count; entry = a .entry }
 agrees-taken (get idx) p c n a = a
 agrees-taken (shrink saved) p c n a = record { next = a .next; live = a .live; count = a .count; entry = a .entry }
+agrees-taken (adjust saved) p c n a = record { next = a .next; live = a .live; count = a .count; entry = a .entry }
+agrees-taken measure p c n a = a
 agrees-taken (serialize out) p c n a = a
 agrees-taken (lookup hash) p c n a = a
+agrees-taken (locate hash) p c n a = a
 agrees-taken (listing out) p c n a = a
 
 -- ---- a box and its plain box

@@ -12,17 +12,19 @@ use Rattle.base.specs.Logic.{all}
 use Rattle.base.specs.Answers.{taken}
 use Rattle.base.specs.declared.Answer.the-variants.{Taken}
 use Rattle.counters.specs.declared.Counters.{Counters}
+use Rattle.counters.specs.declared.CounterTransition.{CounterTransition}
 use Rattle.counters.specs.Counts.{State, fresh}
 use Rattle.counters.specs.Batch.{kept, stateAfter, applyBatch}
-use Rattle.counters.specs.Maintenance.{standard, decide, shrunk}
-use Rattle.counters.specs.Layout.{recordOf, tableOf, withNext, withMaintenance, stateOf, holds}
+use Rattle.counters.specs.Maintenance.{standard, adjusted, decide, shrunk}
+use Rattle.counters.specs.Layout.{recordOf, tableOf, withNext, withMaintenance, stateOf, holds, wordsOf}
 use Rattle.counters.specs.LayoutLaws.{length-tableOf, stateOf-laid, holds-laid}
+use Rattle.counters.specs.WordLaws.{words-batch}
 use Rattle.counters.specs.Calls.{laid, laidOut, newCall, allocCall, batchCall, decided, shrinkCall}
 use Rattle.counters.specs.CallLaws.{new-state, alloc-taken, alloc-state, batch-held, batch-accepted, shrink-held, shrink-state}
 use Rattle.counters.specs.RefusalLaws.{taken-state, taken-fits}
 use Rattle.snapshot_laws.specs.RoundTrip.{WellFormed}
 use Rattle.snapshot_laws.specs.WellFormedLaws.{new-well-formed, alloc-well-formed, batch-well-formed, shrink-well-formed}
-use Rattle.node_box.specs.Box.{allocate, batch, shrink}
+use Rattle.node_box.specs.Box.{allocate, batch, batchRecords, shrink, adjust}
 use Rattle.demand3.specs.States.{countersAfter}
 
 -- ---- the record and the table of a state
@@ -83,6 +85,23 @@ module _ {len : ℕ} {c : Counters} {t : List ℕ} {s : State} (h : CountersHeld
       batch-held c t ws (a .transitions) (a .holding) (a .words) ∙ rw (a .applied, counters-length h) in
       let well : WellFormed s′ = rw same at (batch-well-formed c t was-well ws u) in
       rw (a .words, call, ← is) (laid-counters len s′ (taken-fits (len / 2) s (a .transitions) s′ ok) well)
+
+  pub records-held-after : (ts : List CounterTransition) → all (λ w. ltb w (2 ^ 64)) (wordsOf ts) ≡ true → batchCall c t (wordsOf ts) .result .answer ≡ Taken
+      → CountersHeld len (batchCall c t (wordsOf ts) .result .counters) (batchCall c t (wordsOf ts) .table) (countersAfter (batchRecords ts) s)
+  unfolding countersAfter
+  records-held-after ts u e = rw (words-batch ts) at (batch-held-after (wordsOf ts) u e)
+
+  -- ---- the loan of maintenance
+  pub adjust-held-after : (saved : ℕ) → CountersHeld len (withMaintenance c (adjusted standard saved (c .maintenance))) t (countersAfter (adjust saved) s)
+  unfolding countersAfter withMaintenance recordOf tableOf
+  adjust-held-after saved =
+      let w = h .well in
+      record {
+        same-record = ap (λ (d : Counters). withMaintenance d (adjusted standard saved (d .maintenance))) (h .same-record);
+        same-table = h .same-table;
+        fits = h .fits;
+        well = record { next-fits = w .next-fits; live-fits = w .live-fits; sorted = w .sorted; counts-fit = w .counts-fit };
+      }
 
   -- ---- shrinking
   pub shrink-held-after : (saved : ℕ) → CountersHeld len (shrinkCall standard c t saved .counters) t (countersAfter (shrink saved) s)

@@ -4,7 +4,7 @@ use mathlib.Core.Path.{_≡_}
 use mathlib.Core.Logic.{_↔_, _⊎_}
 use mathlib.Core.Bool.{true, _||_}
 use mathlib.Core.List.{[], _∷_, map}
-use Prim.Native.Nat.{ℕ, _+_, _<_}
+use Prim.Native.Nat.{_+_, _<_}
 use native.Mathlib.Omega.{arith}
 use lib.ListN.{length}
 use lib.Dec.{ltb}
@@ -15,7 +15,7 @@ use Rattle.base.specs.OutcomeLaws.{flat-three, flat-four, other-number, refused
 use Rattle.base.specs.declared.Refusal.the-variants.{Present, NurseryFull, TooLong}
 use Rattle.cell_nursery.specs.Entries.{State, cellBytes}
 use Rattle.cell_nursery.specs.Items.{Delta}
-use Rattle.cell_nursery.specs.Delta.{Room, tooLong, present, used, full, stateAfter, applyDelta}
+use Rattle.cell_nursery.specs.Delta.{Room, tooLong, present, full, stateAfter, applyDelta}
 
 -- a cell over 65,535 bytes, or a list over 2^32 − 1 items
 abbrev pub IsLong : Delta → Type 0
@@ -25,9 +25,9 @@ IsLong d = (Some (λ e. 65535 < length (e .cell)) (d .inserts) ⊎ (max32 < leng
 abbrev pub IsPresent : State → Delta → Type 0
 IsPresent s d = Some (λ e. Some (λ x. e .hash ≡ x .hash) (s .entries)) (d .inserts) ⊎ Two (λ e f. e .hash ≡ f .hash) (d .inserts)
 
--- so many entries, or cell bytes, after the inserts and before the removes exceed the tables
-abbrev pub IsFull : Room → ℕ → State → Delta → Type 0
-IsFull m rows s d = (m .entries < rows + length (d .inserts)) ⊎ (m .cells < cellBytes (s .entries) + cellBytes (d .inserts))
+-- entries or cell bytes after the inserts, before the removes, exceed the tables
+abbrev pub IsFull : Room → State → Delta → Type 0
+IsFull m s d = (m .entries < length (s .entries) + length (d .inserts)) ⊎ (m .cells < cellBytes (s .entries) + cellBytes (d .inserts))
 
 module _ (m : Room) (s : State) (d : Delta) where
   long-test : (tooLong d ≡ true) ↔ IsLong d
@@ -45,11 +45,11 @@ module _ (m : Room) (s : State) (d : Delta) where
       (any-some (λ e. elem (e .hash) (map (λ x. x .hash) (s .entries))) (λ e. elem-some (λ x. x .hash) (e .hash) (s .entries)) (d .inserts))
       (repeated-two (λ e. e .hash) (d .inserts))
 
-  full-test : (full m s d ≡ true) ↔ IsFull m (used s) s d
+  full-test : (full m s d ≡ true) ↔ IsFull m s d
   unfolding full
   full-test =
-      or-either (ltb (m .entries) (used s + length (d .inserts))) (ltb (m .cells) (cellBytes (s .entries) + cellBytes (d .inserts)))
-      (ltb-lt (m .entries) (used s + length (d .inserts))) (ltb-lt (m .cells) (cellBytes (s .entries) + cellBytes (d .inserts)))
+      or-either (ltb (m .entries) (length (s .entries) + length (d .inserts))) (ltb (m .cells) (cellBytes (s .entries) + cellBytes (d .inserts)))
+      (ltb-lt (m .entries) (length (s .entries) + length (d .inserts))) (ltb-lt (m .cells) (cellBytes (s .entries) + cellBytes (d .inserts)))
 
   -- 14, too long
   pub delta-long : (applyDelta m s d ≡ refused TooLong) ↔ IsLong d
@@ -62,14 +62,14 @@ module _ (m : Room) (s : State) (d : Delta) where
   delta-present = ends-later long-test (other-number (omega arith)) (ends-here present-test (never-ends full-test (other-number (omega arith)) taken-refused))
 
   -- 13, nursery full
-  pub delta-full : (applyDelta m s d ≡ refused NurseryFull) ↔ ((¬ IsLong d) × (¬ IsPresent s d) × IsFull m (used s) s d)
+  pub delta-full : (applyDelta m s d ≡ refused NurseryFull) ↔ ((¬ IsLong d) × (¬ IsPresent s d) × IsFull m s d)
   unfolding applyDelta
   delta-full =
       flat-three
       (ends-later long-test (other-number (omega arith)) (ends-later present-test (other-number (omega arith)) (ends-here full-test taken-refused)))
 
   -- taken: none of the three
-  pub delta-accepted : (t : State) → (applyDelta m s d ≡ taken t) ↔ ((¬ IsLong d) × (¬ IsPresent s d) × (¬ IsFull m (used s) s d) × (t ≡ stateAfter d s))
+  pub delta-accepted : (t : State) → (applyDelta m s d ≡ taken t) ↔ ((¬ IsLong d) × (¬ IsPresent s d) × (¬ IsFull m s d) × (t ≡ stateAfter d s))
   unfolding applyDelta
   delta-accepted t =
       flat-four

@@ -16,14 +16,15 @@ use Rattle.base.specs.declared.Refusal.{Refusal}
 use Rattle.counters.specs.Counts as counts
 use Rattle.counters.specs.Counts.{fresh}
 use Rattle.counters.specs.Maintenance.{standard}
+use Rattle.counters.specs.Layout.{wordsOf}
 use Rattle.counters.specs.CallLaws.{alloc-refused, batch-refused, shrink-refused}
 use Rattle.cell_nursery.specs.Entries as entries
 use Rattle.cell_nursery.specs.Entries.{empty}
 use Rattle.journal_laws.specs.DeltaLaws.{Bytes}
-use Rattle.node_box.specs.Box.{Box, Call, allocate, batch, delta, drain, get, shrink, serialize, lookup, listing, made, accepted, withCounters, withNursery, step, run}
+use Rattle.node_box.specs.Box.{Box, Call, allocate, batch, batchRecords, delta, drain, get, shrink, adjust, measure, serialize, lookup, locate, listing, made, accepted, withCounters, withNursery, step, run}
 use Rattle.node_box.specs.Demand.{typed, History, Typed, start, end}
 use Rattle.demand3.specs.States.{countersAfter, nurseryAfter}
-use Rattle.demand3.specs.CountersHeld.{CountersHeld, new-held, alloc-held, batch-held-after, shrink-held-after}
+use Rattle.demand3.specs.CountersHeld.{CountersHeld, new-held, alloc-held, batch-held-after, records-held-after, adjust-held-after, shrink-held-after}
 use Rattle.demand3.specs.NurseryHeld.{NurseryHeld, new-nursery, delta-taken, delta-refused, delta-held, drain-held, drain-refused}
 
 -- how long the four tables are
@@ -70,12 +71,16 @@ module _ {len : ℕ} (b : Box) {c : counts.State} (h : CountersHeld len (b .coun
   unfolding step withCounters withNursery countersAfter typed
   counters-taken allocate t e = alloc-held h (answer-taken _ e)
   counters-taken (batch words) t e = batch-held-after h words t (answer-taken _ e)
+  counters-taken (batchRecords ts) t e = records-held-after h ts t (answer-taken _ e)
   counters-taken (delta id wide inserts removes items) t e = h
   counters-taken (drain round out) t e = h
   counters-taken (get idx) t e = h
   counters-taken (shrink saved) t e = shrink-held-after h saved
+  counters-taken (adjust saved) t e = adjust-held-after h saved
+  counters-taken measure t e = h
   counters-taken (serialize out) t e = h
   counters-taken (lookup hash) t e = h
+  counters-taken (locate hash) t e = h
   counters-taken (listing out) t e = h
 
 module _ {le lw lc : ℕ} (b : Box) {n : entries.State} (h : NurseryHeld le lw lc (b .nursery) (b .entries) (b .waiting) (b .cells) n) where
@@ -84,22 +89,30 @@ module _ {le lw lc : ℕ} (b : Box) {n : entries.State} (h : NurseryHeld le lw l
   unfolding step withCounters withNursery nurseryAfter
   nursery-taken allocate t e = h
   nursery-taken (batch words) t e = h
+  nursery-taken (batchRecords ts) t e = h
   nursery-taken (delta id wide inserts removes items) t e =
       delta-held h wide inserts removes items id (delta-typed id wide inserts removes items t .bytes) (delta-taken h wide inserts removes items (answer-taken _ e))
   nursery-taken (drain round out) t e = drain-held h round _ (answer-taken _ e)
   nursery-taken (get idx) t e = h
   nursery-taken (shrink saved) t e = h
+  nursery-taken (adjust saved) t e = h
+  nursery-taken measure t e = h
   nursery-taken (serialize out) t e = h
   nursery-taken (lookup hash) t e = h
+  nursery-taken (locate hash) t e = h
   nursery-taken (listing out) t e = h
 
   -- a refused one leaves the box as it was
   pub refused-same : (x : Call) → accepted (step b x .0) ≡ false → step b x .1 ≡ b
-  unfolding step withCounters withNursery
+  unfolding step withCounters withNursery accepted
   refused-same allocate e = let r = answer-refused _ e in rw (alloc-refused (b .counters) (r .0) (r .1) .1)
   refused-same (batch words) e =
       let r = answer-refused _ e in
       let q = batch-refused (b .counters) (b .counts) words (r .0) (r .1) in
+      rw (q .0, q .1)
+  refused-same (batchRecords ts) e =
+      let r = answer-refused _ e in
+      let q = batch-refused (b .counters) (b .counts) (wordsOf ts) (r .0) (r .1) in
       rw (q .0, q .1)
   refused-same (delta id wide inserts removes items) e =
       let r = answer-refused _ e in
@@ -111,8 +124,11 @@ module _ {le lw lc : ℕ} (b : Box) {n : entries.State} (h : NurseryHeld le lw l
       rw (q .0, q .1)
   refused-same (get idx) e = refl
   refused-same (shrink saved) e = let r = answer-refused _ e in rw (shrink-refused standard (b .counters) (b .counts) saved (r .0) (r .1))
+  refused-same (adjust saved) e = absurd (true≢false e)
+  refused-same measure e = refl
   refused-same (serialize out) e = refl
   refused-same (lookup hash) e = refl
+  refused-same (locate hash) e = refl
   refused-same (listing out) e = refl
 
 pub holds-taken : {z : Sizes} {b : Box} {c : counts.State} {n : entries.State} → Holds z b c n → (x : Call) → typed x ≡ true → accepted (step b x .0) ≡ true

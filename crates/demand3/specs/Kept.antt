@@ -1,34 +1,33 @@
 -- What is kept of a box that started fresh, whatever was called on it: its records and tables hold states, its tables are as long as they
--- were, their words are u64 and the cells' bytes are bytes, every waiting row is an entry's, with its round, and no hash waits twice.
+-- were, their words are u64 and the cells' bytes are bytes.
 -- Assumes nothing.
 use mathlib.Core.Path.{_≡_, refl}
 use mathlib.Core.Bool.{Bool, true, false, not}
 use mathlib.Core.Option.{Option, none, some}
-use mathlib.Core.List.{List, [], _∷_, map}
+use mathlib.Core.List.{List, [], _∷_}
 use Prim.Native.Nat.{ℕ, suc, _^_, _<_}
 use native.Mathlib.Omega.{arith}
 use lib.ListN.{length}
 use lib.Dec.{ltb, eqb}
-use Rattle.base.specs.Logic.{all, fold, repeated}
+use Rattle.base.specs.Logic.{all, fold}
 use Rattle.base.specs.Maybe.{maybe}
 use Rattle.base.specs.Laws.{and-left, and-right}
-use Rattle.base.specs.ListLaws.{Some, all-keep}
+use Rattle.base.specs.ListLaws.{all-keep}
 use Rattle.base.specs.SumLaws.{all-one}
 use Rattle.rows.specs.RowLaws.{all-put}
 use Rattle.counters.specs.Counts as counts
 use Rattle.counters.specs.Counts.{fresh}
 use Rattle.counters.specs.Maintenance.{standard}
 use Rattle.counters.specs.Layout as counters
-use Rattle.cell_nursery.specs.Entries.{Entry, Waiting, State, empty, putEntry, insert, remove}
+use Rattle.cell_nursery.specs.Entries.{Entry, State, empty, tied, putEntry, insert, remove}
 use Rattle.cell_nursery.specs.Items.{Delta, deltaOf}
-use Rattle.cell_nursery.specs.Delta.{used, stateAfter}
+use Rattle.cell_nursery.specs.Delta.{stateAfter}
 use Rattle.cell_nursery.specs.Drain.{drained}
 use Rattle.cell_nursery.specs.Layout as nursery
 use Rattle.cell_nursery.specs.Calls.{lengthWidth}
 use Rattle.cell_nursery.specs.HashLaws.{U64}
-use Rattle.journal_laws.specs.WaitLaws.{waiterFor, used-waits, waits-entry, waits-once}
 use Rattle.journal_laws.specs.DeltaLaws.{delta-read}
-use Rattle.node_box.specs.Box.{Box, Call, allocate, batch, delta, drain, get, shrink, serialize, lookup, listing, step, run, accepted, nurseryOf}
+use Rattle.node_box.specs.Box.{Box, Call, allocate, batch, batchRecords, delta, drain, get, shrink, adjust, measure, serialize, lookup, locate, listing, step, run, accepted, nurseryOf}
 use Rattle.node_box.specs.Demand.{typed, History, Typed, end}
 use Rattle.demand3.specs.States.{countersAfter, nurseryAfter}
 use Rattle.demand3.specs.CountersHeld.{counters-hold, counters-length}
@@ -57,6 +56,7 @@ bytes-after : (x : Call) (n : State) → typed x ≡ true → ByteCells (n .entr
 unfolding nurseryAfter drained stateAfter
 bytes-after allocate n t b = b
 bytes-after (batch words) n t b = b
+bytes-after (batchRecords ts) n t b = b
 bytes-after (delta id wide inserts removes items) n t b = go (deltaOf (lengthWidth wide) inserts removes items) refl
   where
     go : (o : Option Delta) → deltaOf (lengthWidth wide) inserts removes items ≡ o → ByteCells (maybe n (λ d. stateAfter d n) o .entries)
@@ -67,8 +67,11 @@ bytes-after (delta id wide inserts removes items) n t b = go (deltaOf (lengthWid
 bytes-after (drain round out) n t b = b
 bytes-after (get idx) n t b = b
 bytes-after (shrink saved) n t b = b
+bytes-after (adjust saved) n t b = b
+bytes-after measure n t b = b
 bytes-after (serialize out) n t b = b
 bytes-after (lookup hash) n t b = b
+bytes-after (locate hash) n t b = b
 bytes-after (listing out) n t b = b
 
 -- ---- after any calls
@@ -114,10 +117,8 @@ pub record Kept (a : History) : Type 0 where
   pub entries-words : length (a .cells) < 2 ^ 64 → U64 (end a .entries)
   pub waiting-words : U64 (end a .waiting)
   pub cell-bytes : all (λ b. ltb b 256) (end a .cells) ≡ true
-  -- the waiting rows
-  pub names-entry : (x : Waiting) → Some (λ y. y ≡ x) (nurseryOf (end a) .waiting) → Some (λ e. waiterFor e ≡ x) (nurseryOf (end a) .entries)
-  pub waits-once : repeated (map (λ x. x .hash) (nurseryOf (end a) .waiting)) ≡ false
-  pub rows-used : used (nurseryOf (end a)) ≡ length (nurseryOf (end a) .entries)
+  -- each waiting row is that of an entry, and an entry waits once or not at all
+  pub waiting-tied : tied (nurseryOf (end a)) ≡ true
 
 pub kept : (a : History) → Typed a → Kept a
 kept a t =
@@ -135,7 +136,5 @@ kept a t =
       entries-words = λ l. rw (n .same-entries) (all-words _ (entries-table (length (a .entries)) (h .second) (n .well) (omega (arith, n .cells-fit))));
       waiting-words = rw (n .same-waiting) (all-words _ (waiting-table (length (a .waiting)) (h .second) (n .well)));
       cell-bytes = rw (n .same-cells) (cells-table (length (a .cells)) (h .second) (h .bytes));
-      names-entry = rw (nursery-state n) (waits-entry (n .gone) (h .second) (n .waits));
-      waits-once = rw (nursery-state n) (waits-once (n .gone) (h .second) (n .waits) (n .well .hashes));
-      rows-used = rw (nursery-state n) (used-waits (n .gone) (h .second) (n .waits));
+      waiting-tied = rw (nursery-state n) (n .well .ties);
     }

@@ -4,26 +4,25 @@
 use mathlib.Core.Path.{_≡_, refl, sym, _∙_}
 use mathlib.Core.Bool.{Bool, true}
 use mathlib.Core.Option.{Option, none, some}
-use mathlib.Core.List.{List, []}
+use mathlib.Core.List.{List}
 use Prim.Native.Nat.{ℕ, _/_, _^_, _≤_, _<_, min}
 use native.Mathlib.Omega.{arith}
 use lib.ListN.{length}
-use Rattle.base.specs.SumLaws.{length-keep}
 use Rattle.base.specs.Answers.{Outcome, refused, taken, _>>=_, orRefuse}
 use Rattle.base.specs.Output.{fitting}
 use Rattle.base.specs.declared.Answer.the-variants.{Taken, Refused}
 use Rattle.base.specs.declared.Refusal.{Refusal}
 use Rattle.base.specs.declared.Refusal.the-variants.{Broken}
 use Rattle.cell_nursery.specs.declared.Nursery.{Nursery}
-use Rattle.cell_nursery.specs.Entries.{Waiting, State, empty, cellBytes}
-use Rattle.cell_nursery.specs.Delta.{Room, used, stateAfter, applyDelta}
+use Rattle.cell_nursery.specs.Entries.{State, empty, cellBytes}
+use Rattle.cell_nursery.specs.Delta.{Room, stateAfter, applyDelta}
 use Rattle.cell_nursery.specs.Items.{Delta, deltaOf}
-use Rattle.cell_nursery.specs.Drain.{promotionDelay, due, drained, drainBytes}
+use Rattle.cell_nursery.specs.Drain.{promotionDelay, drained, drainBytes}
 use Rattle.cell_nursery.specs.Layout.{recordOf, entriesTable, waitingTable, cellsTable, roomOf, stateOf, holds, holdsEntries, holdsCells}
-use Rattle.cell_nursery.specs.LayoutLaws.{WellFormed, length-entriesTable, length-waitingTable, length-cellsTable, stateOf-laid, holds-laid, entries-laid, cells-laid}
+use Rattle.cell_nursery.specs.HashLaws.{U64}
+use Rattle.cell_nursery.specs.LayoutLaws.{WellFormed, held, number-entries, bytes-same, length-entriesTable, length-waitingTable, length-cellsTable, stateOf-laid, holds-laid, entries-laid, cells-laid}
 use Rattle.cell_nursery.specs.EntryLaws.{well-empty, well-after, well-drained, InRoom, room-empty, room-after}
 use Rattle.cell_nursery.specs.Calls.{Changed, DrainedOut, laid, laidOut, onState, newCall, lengthWidth, deltaCall, drainedOut, drainCall}
-use Rattle.journal_laws.specs.WaitLaws.{Waits, waits-empty, waits-after, waits-drained, stillGone}
 use Rattle.journal_laws.specs.DeltaLaws.{Bytes, Accepted, delta-read, delta-fits, taken-accepted}
 use Rattle.format.specs.RecordLaws.{Fits}
 use Rattle.node_box.specs.Box.{delta, drain}
@@ -31,17 +30,15 @@ use Rattle.demand3.specs.States.{nurseryAfter}
 
 -- ---- the record and the tables of a state
 
--- the record and the tables, of given lengths, are those of a state; the waiting rows and some that are gone are the entries' rows
+-- the record and the tables, of given lengths, are those of a state
 pub record NurseryHeld (le lw lc : ℕ) (r : Nursery) (es ws cs : List ℕ) (s : State) : Type 0 where
   pub same-record : r ≡ recordOf s
   pub same-entries : es ≡ entriesTable le s
   pub same-waiting : ws ≡ waitingTable lw s
   pub same-cells : cs ≡ cellsTable lc s
   pub well : WellFormed s
-  pub rows-fit : used s ≤ min (le / 8) (lw / 5)
+  pub rows-fit : length (s .entries) ≤ min (le / 8) (lw / 5)
   pub cells-fit : cellBytes (s .entries) ≤ lc
-  pub gone : List Waiting
-  pub waits : Waits gone s
 
 module _ {le lw lc : ℕ} {r : Nursery} {es ws cs : List ℕ} {s : State} (h : NurseryHeld le lw lc r es ws cs s) where
   pub nursery-holds : holds r es ws cs ≡ true
@@ -65,6 +62,22 @@ module _ {le lw lc : ℕ} {r : Nursery} {es ws cs : List ℕ} {s : State} (h : N
   pub cells-length : length cs ≡ lc
   cells-length = rw (h .same-cells) (length-cellsTable s le lw lc (h .well) (h .rows-fit) (h .cells-fit))
 
+-- those that hold a state, wherever they came from, are those of the state that they spell
+pub held-nursery : (r : Nursery) (es ws cs : List ℕ) → U64 es → U64 ws → holds r es ws cs ≡ true
+    → NurseryHeld (length es) (length ws) (length cs) r es ws cs (stateOf r es ws cs)
+unfolding stateOf
+held-nursery r es ws cs u v h =
+    let x = held r es ws cs u v h in
+    record {
+      same-record = sym (x .same-record);
+      same-entries = sym (x .same-entries);
+      same-waiting = sym (x .same-waiting);
+      same-cells = sym (x .same-cells);
+      well = x .well;
+      rows-fit = rw (number-entries r es cs) (x .room);
+      cells-fit = rw (bytes-same r es cs (x .entries) (x .cells)) (x .cells .fits);
+    }
+
 -- the same of what a call returns and leaves
 abbrev pub ChangedHeld : ℕ → ℕ → ℕ → Changed → State → Type 0
 ChangedHeld le lw lc x s = NurseryHeld le lw lc (x .result .nursery) (x .entries) (x .waiting) (x .cells) s
@@ -74,16 +87,15 @@ abbrev pub roomFor : ℕ → ℕ → ℕ → Room
 roomFor le lw lc = record { entries = min (le / 8) (lw / 5); cells = lc }
 
 -- a state laid out
-pub laid-held : (es ws cs : List ℕ) (s : State) (gone : List Waiting)
-    → WellFormed s → InRoom (roomFor (length es) (length ws) (length cs) .entries) (length cs) s → Waits gone s
+pub laid-held : (es ws cs : List ℕ) (s : State) → WellFormed s → InRoom (roomFor (length es) (length ws) (length cs) .entries) (length cs) s
     → ChangedHeld (length es) (length ws) (length cs) (laid es ws cs s) s
 unfolding laid
-laid-held es ws cs s gone w i x =
-    record { same-record = refl; same-entries = refl; same-waiting = refl; same-cells = refl; well = w; rows-fit = i .rows-fit; cells-fit = i .bytes-fit; gone = gone; waits = x }
+laid-held es ws cs s w i =
+    record { same-record = refl; same-entries = refl; same-waiting = refl; same-cells = refl; well = w; rows-fit = i .rows-fit; cells-fit = i .bytes-fit }
 
 pub new-nursery : (es ws cs : List ℕ) → ChangedHeld (length es) (length ws) (length cs) (newCall es ws cs) empty
 unfolding newCall
-new-nursery es ws cs = laid-held es ws cs empty [] well-empty (room-empty _ _) waits-empty
+new-nursery es ws cs = laid-held es ws cs empty well-empty (room-empty _ _)
 
 -- ---- a delta
 not-refused : {r : Refusal} → Taken ≡ Refused r → ⊥
@@ -144,10 +156,9 @@ module _ {le lw lc : ℕ} {r : Nursery} {es ws cs : List ℕ} {s : State} (h : N
     unfolding nurseryAfter
     delta-held id b t =
         let d = t .change in
-        let well = well-after d s (delta-carried 0 (omega arith) b t .inserts) (h .well) in
+        let well = well-after d s (delta-carried 0 (omega arith) b t .inserts) (t .accepted .new) (h .well) in
         let fit = room-after (roomFor le lw lc) d s (t .accepted .fits) in
-        let waits = waits-after (h .gone) d s (t .accepted .new) (h .waits) in
-        let out = laid-held es ws cs (stateAfter d s) (stillGone (d .removes) (h .gone)) well (rw (entries-length h, waiting-length h, cells-length h) fit) waits in
+        let out = laid-held es ws cs (stateAfter d s) well (rw (entries-length h, waiting-length h, cells-length h) fit) in
         rw (t .spelled, t .result) (rw (entries-length h, waiting-length h, cells-length h) at out)
 
   -- ---- draining
@@ -174,10 +185,8 @@ module _ {le lw lc : ℕ} {r : Nursery} {es ws cs : List ℕ} {s : State} (h : N
               same-waiting = rw (waiting-length h);
               same-cells = h .same-cells;
               well = well-drained promotionDelay round s (h .well);
-              rows-fit = unfold used in (omega (arith, h .rows-fit, length-keep (due promotionDelay round) (s .waiting)));
+              rows-fit = h .rows-fit;
               cells-fit = h .cells-fit;
-              gone = _;
-              waits = waits-drained promotionDelay round (h .gone) s (h .waits);
             }
 
     pub drain-refused : (q : Refusal) → draining .result .answer ≡ Refused q → (draining .result .nursery ≡ r) × (draining .waiting ≡ ws)

@@ -1,15 +1,13 @@
 -- What the snapshot and the listing of a box are, given an output long enough: the bytes of the states that the box holds.
 -- Assumes nothing.
-use mathlib.Core.Path.{_≡_, refl, ap}
+use mathlib.Core.Path.{_≡_, ap}
 use mathlib.Core.List.{List}
-use Prim.Native.Nat.{ℕ, _≤_}
+use Prim.Native.Nat.{ℕ}
 use native.Mathlib.Omega.{arith}
-use lib.ListN.{length, drop, length-replicate}
-use lib.Seq.{take-at}
-use borrow.Author.Tests.{le-ltb}
-use Rattle.base.specs.Logic.{zeros, overlay}
+use lib.ListN.{length, length-replicate}
+use Rattle.base.specs.Logic.{zeros}
 use Rattle.base.specs.Answers.{taken}
-use Rattle.base.specs.Output.{fitting, put, written}
+use Rattle.base.specs.Output.{written}
 use Rattle.counters.specs.Counts as counts
 use Rattle.counters.specs.Layout.{stateOf}
 use Rattle.counters.specs.Calls.{onState}
@@ -21,16 +19,12 @@ use Rattle.cell_nursery.specs.Layout as nursery
 use Rattle.cell_nursery.specs.Layout.{entriesOf}
 use Rattle.cell_nursery.specs.Calls.{listingCall}
 use Rattle.node_box.specs.Box.{Box, given, snapshotOf, listingOf}
+use Rattle.node_box.specs.OutputLaws.{written-whole}
 use Rattle.demand3.specs.CountersHeld.{CountersHeld, counters-hold, counters-state}
 use Rattle.demand3.specs.NurseryHeld.{NurseryHeld, nursery-state, entries-hold, cells-hold}
 
--- bytes written into an output that is long enough
-given-written : (bs out : List ℕ) → length bs ≤ length out → given (written out (taken bs)) ≡ bs
-unfolding given written put fitting overlay
-given-written bs out l = rw (le-ltb (length out) (length bs) l) (take-at bs (drop (length bs) out) (length bs) refl)
-
 given-zeros : (bs : List ℕ) → given (written (zeros (length bs)) (taken bs)) ≡ bs
-given-zeros bs = given-written bs (zeros (length bs)) (rw (length-replicate {A = ℕ} (length bs) 0) (omega arith))
+given-zeros bs = written-whole (taken bs) (zeros (length bs)) (rw (length-replicate {A = ℕ} (length bs) 0) (omega arith)) .0
 
 module _ {len : ℕ} {s : counts.State} (b : Box) (h : CountersHeld len (b .counters) (b .counts) s) where
   pub snapshot-is : snapshotOf b ≡ snapshotBytes s
@@ -44,4 +38,4 @@ module _ {le lw lc : ℕ} {s : entries.State} (b : Box) (h : NurseryHeld le lw l
 
   pub listing-is : listingOf b ≡ listingBytes (s .entries)
   unfolding listingOf listingCall
-  listing-is = rw (entries-are, entries-hold h, cells-hold h) (given-zeros (listingBytes (s .entries)))
+  listing-is = rw (nursery-state h, entries-are, entries-hold h, cells-hold h) (given-zeros (listingBytes (s .entries)))

@@ -3,7 +3,6 @@
 use mathlib.Core.Path.{_≡_, refl, sym, ap, subst, _∙_}
 use mathlib.Core.List.{List, [], map}
 use Prim.Native.Nat.{ℕ, _≤_}
-use native.Mathlib.Omega.{arith}
 use lib.ListN.{length, take, length-map}
 use Rattle.base.specs.Logic.{flat}
 use Rattle.blake3.specs.Spec.{hash}
@@ -22,21 +21,22 @@ use Rattle.cell_nursery.specs.Layout.{recordOf, roomOf}
 use Rattle.cell_nursery.specs.Calls.{laid}
 use Rattle.cell_nursery.specs.EntryLaws.{well-empty, room-empty}
 use Rattle.journal.specs.Journal.{End, readJournal, readCall}
-use Rattle.journal_laws.specs.WaitLaws.{Waits, waits-empty, number-waits}
+use Rattle.cell_nursery.specs.WaitLaws.{Waits, waits-empty}
 use Rattle.journal_laws.specs.ReadLaws.{endOf, Applies, applies-whole, applied-waits, applied-well, applied-fits, journal-cut}
 use Rattle.node_box.specs.Box.{Box, snapshotOf, listingOf}
 use Rattle.node_box.specs.Journal.{Logged, records, journalOf, whole, listingAfter, rebuild, cutEnd}
 use Rattle.node_box.specs.Demand.{History, Typed, start, end, wholeOf, wholeBytes, readBack, Rebuilt}
 use Rattle.demand3.specs.CountersHeld.{CountersHeld, laid-counters}
-use Rattle.demand3.specs.NurseryHeld.{NurseryHeld, ChangedHeld, roomFor, laid-held}
+use Rattle.demand3.specs.NurseryHeld.{NurseryHeld, ChangedHeld, roomFor, laid-held, nursery-state}
 use Rattle.demand3.specs.Holding.{sizesOf, holds-start, holding}
 use Rattle.demand3.specs.Outputs.{snapshot-is, listing-is}
+use Rattle.demand3.specs.Waiting.{every-waits}
 use Rattle.demand3.specs.Trace.{Step, logged, Traced, traced, wholeSteps, stepBytes, afterSteps, bytes-logged, whole-logged, listed-whole, listing-last}
 
 module _ (a : History) (ok : Typed a) (k : ℕ) (short : k ≤ length (journalOf hash (start a) (a .calls))) where
   -- the journal's deltas, and those whose records are whole
   trace : Traced hash (sizesOf a) empty (records hash (start a) (a .calls))
-  trace = traced hash (a .calls) (ok .calls) (holds-start a ok) (record { same = refl; waits = waits-empty })
+  trace = traced hash (a .calls) (ok .calls) (holds-start a ok) refl
 
   applied-steps : List Step
   applied-steps = wholeSteps hash k (trace .steps)
@@ -85,8 +85,8 @@ module _ (a : History) (ok : Typed a) (k : ℕ) (short : k ≤ length (journalOf
     nursery-read : ChangedHeld (length es) (length ws) (length cs) (laid es ws cs state) state
     unfolding state
     nursery-read =
-        laid-held es ws cs state [] (applied-well hash (λ s. s .id) (λ s. s .change) room applies well-empty)
-        (rw (le, lw, lc) (applied-fits hash (λ s. s .id) (λ s. s .change) room applies (room-empty (room .entries) (room .cells)))) all-wait
+        laid-held es ws cs state (applied-well hash (λ s. s .id) (λ s. s .change) room applies well-empty)
+        (rw (le, lw, lc) (applied-fits hash (λ s. s .id) (λ s. s .change) room applies (room-empty (room .entries) (room .cells))))
 
     -- ---- the counters, read from the snapshot
     counters : counts.State
@@ -127,7 +127,7 @@ module _ (a : History) (ok : Typed a) (k : ℕ) (short : k ≤ length (journalOf
         listing-is box nursery-held ∙ sym (listing-last hash (listed-whole hash (trace .listed) k))
         ∙ ap (λ (rs : List Logged). listingAfter [] rs) (sym whole-is)
 
-    pub rebuilt : Rebuilt a k t es ws cs
+    pub rebuilt : Rebuilt a k (readBack a k t es ws cs)
     unfolding readBack rebuild readCall cutEnd recordOf laid counters-calls.laid
     rebuilt =
         record {
@@ -137,5 +137,5 @@ module _ (a : History) (ok : Typed a) (k : ℕ) (short : k ≤ length (journalOf
           applied = rw (reading, whole-is) (sym (length-map applied-steps (logged hash)));
           place = rw reading (sym bytes-are);
           ended = rw (reading, bytes-are);
-          waiting = rw reading (omega (arith, number-waits [] state all-wait));
+          waiting = rw (nursery-state nursery-held) (every-waits state all-wait (nursery-held .well .hashes));
         }

@@ -33,10 +33,10 @@ use Rattle.cell_nursery.specs.Items.{Delta, deltaOf}
 use Rattle.cell_nursery.specs.Delta.{Room, applyDelta}
 use Rattle.cell_nursery.specs.Drain.{promotionDelay, drainBytes, listingBytes}
 use Rattle.cell_nursery.specs.Calls.{lengthWidth}
-use Rattle.journal_laws.specs.WaitLaws.{used-waits}
-use Rattle.node_box.specs.Box.{Box, Call, allocate, batch, delta, drain, get, shrink, serialize, lookup, listing, step}
+use Rattle.node_box.specs.Box.{Box, Call, allocate, batch, batchRecords, delta, drain, get, shrink, adjust, measure, serialize, lookup, locate, listing, step, countersOf, nurseryOf}
 use Rattle.node_box.specs.Demand.{History, Typed, end}
-use Rattle.demand3.specs.NurseryHeld.{roomFor}
+use Rattle.demand3.specs.CountersHeld.{counters-state}
+use Rattle.demand3.specs.NurseryHeld.{roomFor, nursery-state}
 use Rattle.demand3.specs.Holding.{Sizes, Holds, sizesOf, holding}
 use Rattle.demand3.specs.DeltaRefusals.{IsLong, IsPresent, IsFull, delta-long, delta-present, delta-full, delta-numbers}
 use Rattle.demand3.specs.Answered.{answerTo, answer-is}
@@ -49,46 +49,55 @@ roomIn z = roomFor (z .entries) (z .waiting) (z .cells)
 abbrev pub Unspelled : Call → Type 0
 Unspelled allocate = ⊥
 Unspelled (batch words) = ¬ (length words % 3 ≡ 0)
+Unspelled (batchRecords ts) = ⊥
 Unspelled (delta id wide inserts removes items) = deltaOf (lengthWidth wide) inserts removes items ≡ none
 Unspelled (drain round out) = ⊥
 Unspelled (get idx) = ⊥
 Unspelled (shrink saved) = ⊥
+Unspelled (adjust saved) = ⊥
+Unspelled measure = ⊥
 Unspelled (serialize out) = ⊥
 Unspelled (lookup hash) = ⊥
+Unspelled (locate hash) = ⊥
 Unspelled (listing out) = ⊥
 
 -- the numbers that a call can be refused with
 abbrev pub numbersOf : Call → List ℕ
 numbersOf allocate = 1 ∷ []
 numbersOf (batch words) = 20 ∷ 2 ∷ 3 ∷ 5 ∷ 4 ∷ 6 ∷ []
+numbersOf (batchRecords ts) = 2 ∷ 3 ∷ 5 ∷ 4 ∷ 6 ∷ []
 numbersOf (delta id wide inserts removes items) = 20 ∷ 14 ∷ 12 ∷ 13 ∷ []
 numbersOf (drain round out) = 15 ∷ []
 numbersOf (get idx) = 2 ∷ []
 numbersOf (shrink saved) = []
+numbersOf (adjust saved) = []
+numbersOf measure = []
 numbersOf (serialize out) = 15 ∷ []
 numbersOf (lookup hash) = []
+numbersOf (locate hash) = []
 numbersOf (listing out) = 15 ∷ []
 
 module _ (z : Sizes) (b : Box) (c : counts.State) (n : entries.State) where
-  -- of transitions that words spell, and of a delta that items spell
-  pub record BatchRefusals (words : List ℕ) (ts : List CounterTransition) : Type 0 where
-    pub unallocated : (step b (batch words) .0 ≡ Refused Unallocated) ↔ ChangesUnallocated c ts
-    pub repeated : (step b (batch words) .0 ≡ Refused Repeated) ↔ ((¬ ChangesUnallocated c ts) × NamesTwice ts)
-    pub false-old : (step b (batch words) .0 ≡ Refused FalseOld) ↔ ((¬ ChangesUnallocated c ts) × (¬ NamesTwice ts) × HasFalseOld c ts)
-    pub off-total : (step b (batch words) .0 ≡ Refused OffTotal)
+  -- of a call that lends transitions, as words or as records, and of one that lends a delta
+  pub record BatchRefusals (x : Call) (ts : List CounterTransition) : Type 0 where
+    pub unallocated : (step b x .0 ≡ Refused Unallocated) ↔ ChangesUnallocated c ts
+    pub repeated : (step b x .0 ≡ Refused Repeated) ↔ ((¬ ChangesUnallocated c ts) × NamesTwice ts)
+    pub false-old : (step b x .0 ≡ Refused FalseOld) ↔ ((¬ ChangesUnallocated c ts) × (¬ NamesTwice ts) × HasFalseOld c ts)
+    pub off-total : (step b x .0 ≡ Refused OffTotal)
         ↔ ((¬ ChangesUnallocated c ts) × (¬ NamesTwice ts) × (¬ HasFalseOld c ts) × LeavesTotal c ts)
-    pub table-full : (step b (batch words) .0 ≡ Refused TableFull)
+    pub table-full : (step b x .0 ≡ Refused TableFull)
         ↔ ((¬ ChangesUnallocated c ts) × (¬ NamesTwice ts) × (¬ HasFalseOld c ts) × (¬ LeavesTotal c ts) × ExceedsTable c ts (z .counts / 2))
 
   pub record DeltaRefusals (x : Call) (d : Delta) : Type 0 where
     pub too-long : (step b x .0 ≡ Refused TooLong) ↔ IsLong d
     pub present : (step b x .0 ≡ Refused Present) ↔ ((¬ IsLong d) × IsPresent n d)
-    pub nursery-full : (step b x .0 ≡ Refused NurseryFull) ↔ ((¬ IsLong d) × (¬ IsPresent n d) × IsFull (roomIn z) (length (n .entries)) n d)
+    pub nursery-full : (step b x .0 ≡ Refused NurseryFull) ↔ ((¬ IsLong d) × (¬ IsPresent n d) × IsFull (roomIn z) n d)
 
   pub record Refusals : Type 0 where
     pub spent : (step b allocate .0 ≡ Refused Spent) ↔ (c .next ≡ max64)
     pub unallocated : (i : ℕ) → (step b (get i) .0 ≡ Refused Unallocated) ↔ (c .next ≤ i)
-    pub of-batch : (words : List ℕ) (ts : List CounterTransition) → batchOf words ≡ some ts → BatchRefusals words ts
+    pub of-batch : (words : List ℕ) (ts : List CounterTransition) → batchOf words ≡ some ts → BatchRefusals (batch words) ts
+    pub of-records : (ts : List CounterTransition) → BatchRefusals (batchRecords ts) ts
     pub of-delta : (id : ℕ) (wide : Bool) (inserts removes : ℕ) (items : List ℕ) (d : Delta) → deltaOf (lengthWidth wide) inserts removes items ≡ some d
         → DeltaRefusals (delta id wide inserts removes items) d
     pub drain-full : (round out : ℕ) → (step b (drain round out) .0 ≡ Refused OutputFull) ↔ (out < length (drainBytes promotionDelay round n))
@@ -142,11 +151,10 @@ ragged words = go (eqb (length words % 3) 0) refl
 
 -- ---- the table
 module _ {z : Sizes} {b : Box} {c : counts.State} {n : entries.State} (h : Holds z b c n) where
-  batch-refusals : (words : List ℕ) (ts : List CounterTransition) → batchOf words ≡ some ts → BatchRefusals z b c n words ts
-  unfolding answerTo
-  batch-refusals words ts e =
+  batch-refusals : (x : Call) (ts : List CounterTransition) → answerTo z c n x ≡ answerOf (applyBatch (z .counts / 2) c ts) → BatchRefusals z b c n x ts
+  batch-refusals x ts e =
       let o = applyBatch (z .counts / 2) c ts in
-      let said : step b (batch words) .0 ≡ answerOf o = answer-is h (batch words) ∙ rw e in
+      let said : step b x .0 ≡ answerOf o = answer-is h x ∙ e in
       record {
         unallocated = says o said (batch-unallocated (z .counts / 2) c ts);
         repeated = says o said (batch-repeated (z .counts / 2) c ts);
@@ -164,7 +172,7 @@ module _ {z : Sizes} {b : Box} {c : counts.State} {n : entries.State} (h : Holds
       record {
         too-long = says o said (delta-long (roomIn z) n d);
         present = says o said (delta-present (roomIn z) n d);
-        nursery-full = says o said (rw (used-waits (h .nursery .gone) n (h .nursery .waits)) at (delta-full (roomIn z) n d));
+        nursery-full = says o said (delta-full (roomIn z) n d);
       }
 
   -- the numbers of each call
@@ -180,6 +188,7 @@ module _ {z : Sizes} {b : Box} {c : counts.State} {n : entries.State} (h : Holds
       go (batch words) p =
           number-in (20 ∷ 2 ∷ 3 ∷ 5 ∷ 4 ∷ 6 ∷ []) (orRefuse Broken (batchOf words) >>= applyBatch (z .counts / 2) c)
           (spelled-numbers (batchOf words) (applyBatch (z .counts / 2) c) (2 ∷ 3 ∷ 5 ∷ 4 ∷ 6 ∷ []) (λ ts. batch-numbers (z .counts / 2) c ts)) refl p
+      go (batchRecords ts) p = number-in (2 ∷ 3 ∷ 5 ∷ 4 ∷ 6 ∷ []) (applyBatch (z .counts / 2) c ts) (batch-numbers (z .counts / 2) c ts) refl p
       go (delta id wide inserts removes items) p =
           let spelled = deltaOf (lengthWidth wide) inserts removes items in
           number-in (20 ∷ 14 ∷ 12 ∷ 13 ∷ []) (orRefuse Broken spelled >>= applyDelta (roomIn z) n)
@@ -187,8 +196,11 @@ module _ {z : Sizes} {b : Box} {c : counts.State} {n : entries.State} (h : Holds
       go (drain round out) p = let bs = drainBytes promotionDelay round n in number-in (15 ∷ []) (fitting out (taken bs)) (output-numbers out bs) refl p
       go (get idx) p = number-in (2 ∷ []) (counts.get c idx) (get-numbers c idx) refl p
       go (shrink saved) p = absurd (never p)
+      go (adjust saved) p = absurd (never p)
+      go measure p = absurd (never p)
       go (serialize out) p = number-in (15 ∷ []) (fitting out (taken (snapshotBytes c))) (output-numbers out (snapshotBytes c)) refl p
       go (lookup hash) p = absurd (never p)
+      go (locate hash) p = absurd (never p)
       go (listing out) p = let bs = listingBytes (n .entries) in number-in (15 ∷ []) (fitting out (taken bs)) (output-numbers out bs) refl p
 
   -- 20 only where nothing is spelled
@@ -199,6 +211,7 @@ module _ {z : Sizes} {b : Box} {c : counts.State} {n : entries.State} (h : Holds
       let o = orRefuse Broken (batchOf words) >>= applyBatch (z .counts / 2) c in
       let none-spelled = spelled-broken (batchOf words) (applyBatch (z .counts / 2) c) (2 ∷ 3 ∷ 5 ∷ 4 ∷ 6 ∷ []) (λ ts. batch-numbers (z .counts / 2) c ts) refl in
       says o (answer-is h (batch words)) ((λ e. ragged words .0 (none-spelled .0 e)), λ u. none-spelled .1 (ragged words .1 u))
+  call-broken (batchRecords ts) = (λ e. absurd (false≢true (call-numbers (batchRecords ts) Broken e)), λ u. absurd u)
   call-broken (delta id wide inserts removes items) =
       let spelled = deltaOf (lengthWidth wide) inserts removes items in
       says (orRefuse Broken spelled >>= applyDelta (roomIn z) n) (answer-is h (delta id wide inserts removes items))
@@ -206,8 +219,11 @@ module _ {z : Sizes} {b : Box} {c : counts.State} {n : entries.State} (h : Holds
   call-broken (drain round out) = (λ e. absurd (false≢true (call-numbers (drain round out) Broken e)), λ u. absurd u)
   call-broken (get idx) = (λ e. absurd (false≢true (call-numbers (get idx) Broken e)), λ u. absurd u)
   call-broken (shrink saved) = (λ e. absurd (false≢true (call-numbers (shrink saved) Broken e)), λ u. absurd u)
+  call-broken (adjust saved) = (λ e. absurd (false≢true (call-numbers (adjust saved) Broken e)), λ u. absurd u)
+  call-broken measure = (λ e. absurd (false≢true (call-numbers measure Broken e)), λ u. absurd u)
   call-broken (serialize out) = (λ e. absurd (false≢true (call-numbers (serialize out) Broken e)), λ u. absurd u)
   call-broken (lookup hash) = (λ e. absurd (false≢true (call-numbers (lookup hash) Broken e)), λ u. absurd u)
+  call-broken (locate hash) = (λ e. absurd (false≢true (call-numbers (locate hash) Broken e)), λ u. absurd u)
   call-broken (listing out) = (λ e. absurd (false≢true (call-numbers (listing out) Broken e)), λ u. absurd u)
 
   pub refusals : Refusals z b c n
@@ -216,7 +232,8 @@ module _ {z : Sizes} {b : Box} {c : counts.State} {n : entries.State} (h : Holds
       record {
         spent = says (counts.allocate (c .next)) (answer-is h allocate) (allocate-spent (c .next));
         unallocated = λ i. says (counts.get c i) (answer-is h (get i)) (get-unallocated c i);
-        of-batch = batch-refusals;
+        of-batch = λ words ts e. batch-refusals (batch words) ts (rw e);
+        of-records = λ ts. batch-refusals (batchRecords ts) ts refl;
         of-delta = delta-refusals;
         drain-full = λ round out. let bs = drainBytes promotionDelay round n in says (fitting out (taken bs)) (answer-is h (drain round out)) (output-full out bs);
         snapshot-full = λ out. says (fitting out (taken (snapshotBytes c))) (answer-is h (serialize out)) (output-full out (snapshotBytes c));
@@ -225,6 +242,6 @@ module _ {z : Sizes} {b : Box} {c : counts.State} {n : entries.State} (h : Holds
         numbers = call-numbers;
       }
 
--- so it is after any calls on a box that started fresh
-pub refusals-after : (a : History) (t : Typed a) → Refusals (sizesOf a) (end a) (holding a t .counters) (holding a t .nursery)
-refusals-after a t = refusals (holding a t .holds)
+-- so it is after any calls on a box that started fresh, by the two states that the box then spells
+pub refusals-after : (a : History) → Typed a → Refusals (sizesOf a) (end a) (countersOf (end a)) (nurseryOf (end a))
+refusals-after a t = let h = holding a t .holds in rw (counters-state (h .counters), nursery-state (h .nursery)) (refusals h)

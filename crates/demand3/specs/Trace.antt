@@ -23,10 +23,9 @@ use Rattle.cell_nursery.specs.Calls.{lengthWidth}
 use Rattle.counters.specs.Counts as counts
 use Rattle.format.specs.Record.{recordBytes, encode}
 use Rattle.format.specs.Calls.{encodedOut, encodeCall}
-use Rattle.journal_laws.specs.WaitLaws.{Waits, waits-after, none-gone}
 use Rattle.journal_laws.specs.DeltaLaws.{Accepted, Read, delta-read}
 use Rattle.journal_laws.specs.ReadLaws.{accepted-again, bytesOf, wholeIn, applied-all, Applies, done, more}
-use Rattle.node_box.specs.Box.{Box, Call, allocate, batch, delta, drain, get, shrink, serialize, lookup, listing, step, accepted, listingOf}
+use Rattle.node_box.specs.Box.{Box, Call, allocate, batch, batchRecords, delta, drain, get, shrink, adjust, measure, serialize, lookup, locate, listing, step, accepted, listingOf}
 use Rattle.node_box.specs.Journal.{Logged, encoded, loggedOf, records, whole, listingAfter}
 use Rattle.node_box.specs.Demand.{typed}
 use Rattle.demand3.specs.States.{countersAfter, nurseryAfter}
@@ -78,7 +77,7 @@ module _ (hash : List ℕ → List ℕ) where
       let bs = recordBytes hash id d in
       rw (e, t, length-replicate {A = ℕ} (length bs) 0, le-ltb (length bs) (length bs) (omega arith)) (take-at bs (drop (length bs) (zeros (length bs))) (length bs) refl)
 
-  -- ---- a box's journal, read by a nursery that has the box's entries, all waiting
+  -- ---- a box's journal, read by a nursery that has the box's entries, whichever of them wait
   -- the listing after each delta is that of the entries that the nursery has then
   pub data Listed : entries.State → List Step → Type 0 where
     listed-none : {u : entries.State} → Listed u []
@@ -90,10 +89,9 @@ module _ (hash : List ℕ → List ℕ) where
     pub applies : Applies hash (λ s. s .id) (λ s. s .change) (roomFor (z .entries) (z .waiting) (z .cells)) u steps
     pub listed : Listed u steps
 
-  -- the nursery that reads: the box's entries, all of them waiting
-  pub record Reads (n u : entries.State) : Type 0 where
-    pub same : u .entries ≡ n .entries
-    pub waits : Waits [] u
+  -- the nursery that reads has the box's entries
+  abbrev pub Reads : entries.State → entries.State → Type 0
+  Reads n u = u .entries ≡ n .entries
 
   module _ {z : Sizes} {b : Box} {c : counts.State} {n u : entries.State} (h : Holds z b c n) (r : Reads n u) where
     -- the record of an accepted delta, and those after it
@@ -123,22 +121,22 @@ module _ (hash : List ℕ → List ℕ) where
         next = rw (taken .spelled)
 
         again : Accepted (roomFor (z .entries) (z .waiting) (z .cells)) u change
-        again = accepted-again (roomFor (z .entries) (z .waiting) (z .cells)) n u change (r .same) (r .waits) (taken .accepted)
+        again = accepted-again (roomFor (z .entries) (z .waiting) (z .cells)) n u change r (taken .accepted)
 
         same-after : v .entries ≡ nurseryAfter x n .entries
-        same-after = entries-after change n u (r .same) ∙ sym (ap (λ (s : entries.State). s .entries) next)
+        same-after = entries-after change n u r ∙ sym (ap (λ (s : entries.State). s .entries) next)
 
         listing-after : listingOf (step b x .1) ≡ listingBytes (v .entries)
         listing-after = listing-is (step b x .1) (holds-taken h x t e .nursery) ∙ ap listingBytes (sym same-after)
 
         rest-after : Traced z v rs
-        rest-after = rest v (record { same = same-after; waits = rw (none-gone (change .removes)) at (waits-after [] change u (again .new) (r .waits)) })
+        rest-after = rest v same-after
 
         go : (none : Bool) → eqb (inserts + removes) 0 ≡ none
             → Traced z u (pick none [] (record { bytes = encoded hash id wide inserts removes items; after = listingOf (step b x .1) } ∷ []) ++ rs)
         go true q =
             let stays = idle inserts removes change n (delta-read (lengthWidth wide) inserts removes items change (args .bytes) (taken .spelled)) (eqb-true (inserts + removes) 0 q) in
-            rest u (record { same = r .same ∙ sym (ap (λ (s : entries.State). s .entries) (next ∙ stays)); waits = r .waits })
+            rest u (r ∙ sym (ap (λ (s : entries.State). s .entries) (next ∙ stays)))
         go false q =
             record {
               steps = record { id = id; change = change; after = listingOf (step b x .1) } ∷ rest-after .steps;
@@ -153,12 +151,16 @@ module _ (hash : List ℕ → List ℕ) where
     unfolding loggedOf nurseryAfter drained
     traced-call allocate rs t e rest = rest u r
     traced-call (batch words) rs t e rest = rest u r
+    traced-call (batchRecords ts) rs t e rest = rest u r
     traced-call (delta id wide inserts removes items) rs t e rest = traced-delta id wide inserts removes items rs t e rest
-    traced-call (drain round out) rs t e rest = rest u (record { same = r .same; waits = r .waits })
+    traced-call (drain round out) rs t e rest = rest u r
     traced-call (get idx) rs t e rest = rest u r
     traced-call (shrink saved) rs t e rest = rest u r
+    traced-call (adjust saved) rs t e rest = rest u r
+    traced-call measure rs t e rest = rest u r
     traced-call (serialize out) rs t e rest = rest u r
     traced-call (lookup key) rs t e rest = rest u r
+    traced-call (locate key) rs t e rest = rest u r
     traced-call (listing out) rs t e rest = rest u r
 
   pub traced : {z : Sizes} {b : Box} {c : counts.State} {n u : entries.State} (xs : List Call) → all typed xs ≡ true → Holds z b c n → Reads n u → Traced z u (records hash b xs)

@@ -1,4 +1,5 @@
--- An accepted call on tables that hold a state leaves tables that hold one, wherever they came from: 20 never follows it.
+-- An accepted call on tables that hold a state leaves tables that hold one, wherever they came from: 20 never follows it, and each waiting row
+-- stays that of an entry, with its round, none twice.
 -- Assumes nothing.
 use mathlib.Core.Path.{_≡_, refl, sym, ap}
 use mathlib.Core.Bool.{Bool, true}
@@ -7,7 +8,6 @@ use mathlib.Core.List.{List}
 use Prim.Native.Nat.{ℕ, _/_, min}
 use native.Mathlib.Omega.{arith}
 use lib.ListN.{length}
-use Rattle.base.specs.SumLaws.{length-keep}
 use Rattle.base.specs.Answers.{Outcome, refused, taken, _>>=_, orRefuse}
 use Rattle.base.specs.Output.{fitting}
 use Rattle.base.specs.declared.Answer.the-variants.{Taken, Refused}
@@ -15,12 +15,12 @@ use Rattle.base.specs.declared.Refusal.{Refusal}
 use Rattle.base.specs.declared.Refusal.the-variants.{Broken}
 use Rattle.cell_nursery.specs.declared.Nursery.{Nursery}
 use Rattle.cell_nursery.specs.Entries.{State, empty, cellBytes}
-use Rattle.cell_nursery.specs.Delta.{used, stateAfter, applyDelta}
+use Rattle.cell_nursery.specs.Delta.{stateAfter, applyDelta}
 use Rattle.cell_nursery.specs.Items.{Delta, deltaOf}
-use Rattle.cell_nursery.specs.Drain.{due, drained, drainBytes}
+use Rattle.cell_nursery.specs.Drain.{drained, drainBytes}
 use Rattle.cell_nursery.specs.Layout.{recordOf, entriesTable, waitingTable, cellsTable, roomOf, stateOf, holds}
 use Rattle.cell_nursery.specs.HashLaws.{U64}
-use Rattle.cell_nursery.specs.LayoutLaws.{Held, WellFormed, held, holds-laid, number-entries, number-waiting}
+use Rattle.cell_nursery.specs.LayoutLaws.{Held, WellFormed, held, holds-laid, number-entries}
 use Rattle.cell_nursery.specs.EntryLaws.{well-empty, well-after, well-drained, InRoom, room-empty, room-after}
 use Rattle.cell_nursery.specs.Calls.{Changed, DrainedOut, laid, laidOut, onState, newCall, lengthWidth, deltaCall, drainedOut, drainCall}
 use Rattle.journal_laws.specs.DeltaLaws.{Bytes, delta-read, delta-fits, taken-accepted}
@@ -64,7 +64,7 @@ module _ (r : Nursery) (es ws cs : List ℕ) (u : U64 es) (v : U64 ws) (h : hold
         after d (taken t) p i a =
             let (ok, same) = taken-accepted (roomOf es ws cs) s d t p in
             let carried = delta-fits 0 inserts removes d (omega arith) (delta-read (lengthWidth wide) inserts removes items d b i) (ok .short) in
-            rw same (laid-holds es ws cs (stateAfter d s) (well-after d s (carried .inserts) (x .well)) (room-after (roomOf es ws cs) d s (ok .fits)))
+            rw same (laid-holds es ws cs (stateAfter d s) (well-after d s (carried .inserts) (ok .new) (x .well)) (room-after (roomOf es ws cs) d s (ok .fits)))
 
         go : (o : Option Delta) → deltaOf (lengthWidth wide) inserts removes items ≡ o
             → laidOut r es ws cs (orRefuse Broken o >>= applyDelta (roomOf es ws cs) s) .result .answer ≡ Taken
@@ -82,10 +82,10 @@ module _ (r : Nursery) (es ws cs : List ℕ) (u : U64 es) (v : U64 ws) (h : hold
     drain-outcome = rw h
 
     still : holds (recordOf (drained delay round s)) es (waitingTable (length ws) (drained delay round s)) cs ≡ true
-    unfolding drained entriesTable cellsTable stateOf used recordOf
+    unfolding drained entriesTable cellsTable stateOf recordOf
     still =
         let q = holds-laid (drained delay round s) (length es) (length ws) (length cs) (well-drained delay round s (x .well))
-        (omega (arith, x .room, length-keep (due delay round) (s .waiting), number-entries r es cs, number-waiting r ws)) (omega (arith, x .cells .fits, bytes-same)) in
+        (omega (arith, x .room, number-entries r es cs)) (omega (arith, x .cells .fits, bytes-same)) in
         rw (x .same-entries, x .same-cells) at q
       where
         bytes-same : cellBytes (s .entries) ≡ r .«cell_bytes»

@@ -1,7 +1,7 @@
 -- What the reading of a journal of any bytes leaves: a state that the tables can hold, in which every entry waits.
 -- Assumes nothing.
 use mathlib.Core.Path.{_≡_, refl, ap}
-use mathlib.Core.Bool.{not}
+use mathlib.Core.Bool.{true, not}
 use mathlib.Core.Option.{Option, none, some}
 use mathlib.Core.List.{List, [], _∷_}
 use Prim.Native.Nat.{ℕ, zero, suc, _+_, _-_, _^_}
@@ -17,12 +17,14 @@ use Rattle.base.specs.declared.Refusal.the-variants.{ShortRecord, FarLength, Mi
 use Rattle.cell_nursery.specs.Entries.{State, empty}
 use Rattle.cell_nursery.specs.Items.{Delta, deltaOf}
 use Rattle.cell_nursery.specs.Delta.{Room, applyDelta}
-use Rattle.cell_nursery.specs.LayoutLaws.{WellFormed}
+use Rattle.cell_nursery.specs.WaitLaws.{Waits, waits-empty, waits-after, none-gone}
+use Rattle.cell_nursery.specs.Layout.{roomOf, holds}
+use Rattle.cell_nursery.specs.LayoutLaws.{WellFormed, holds-laid}
 use Rattle.cell_nursery.specs.EntryLaws.{well-empty, well-after, InRoom, room-empty, room-after}
 use Rattle.format.specs.Payload.{Payload, payloadOf}
 use Rattle.format.specs.Record.{Decoding, statsOf, decode}
-use Rattle.journal.specs.Journal.{readFrom, readJournal}
-use Rattle.journal_laws.specs.WaitLaws.{Waits, waits-empty, waits-after, none-gone}
+use Rattle.cell_nursery.specs.Calls.{laid}
+use Rattle.journal.specs.Journal.{readFrom, readJournal, readCall}
 use Rattle.journal_laws.specs.DeltaLaws.{Gives, gives, gives-bind, gives-each, Bytes, le-bytes, Read, delta-read, delta-fits, taken-accepted}
 
 -- ---- the delta of a record
@@ -75,7 +77,7 @@ module _ (hash : List ℕ → List ℕ) (m : Room) where
       let fits = delta-fits 0 _ _ (d .delta) (omega arith) (decode-read hash bs d b e) (ok .short) in
       rw same
       (record {
-        well = well-after (d .delta) s (fits .inserts) (l .well);
+        well = well-after (d .delta) s (fits .inserts) (ok .new) (l .well);
         room = room-after m (d .delta) s (ok .fits);
         waits = rw (none-gone (d .delta .removes)) at (waits-after [] (d .delta) s (ok .new) (l .waits));
       })
@@ -105,3 +107,11 @@ module _ (hash : List ℕ → List ℕ) (m : Room) where
   pub journal-loaded : (bs : List ℕ) → Bytes bs → Loaded m (readJournal hash m bs .state)
   unfolding readJournal
   journal-loaded bs b = loaded-from empty 0 0 0 bs b (record { well = well-empty; room = room-empty (m .entries) (m .cells); waits = waits-empty })
+
+-- so the record and the tables that a reading leaves hold a state
+pub read-holds : (hash : List ℕ → List ℕ) (bs es ws cs : List ℕ) → Bytes bs
+    → let c = readCall hash bs es ws cs in holds (c .result .nursery) (c .entries) (c .waiting) (c .cells) ≡ true
+unfolding readCall laid roomOf
+read-holds hash bs es ws cs b =
+    let l = journal-loaded hash (roomOf es ws cs) bs b in
+    holds-laid (readJournal hash (roomOf es ws cs) bs .state) (length es) (length ws) (length cs) (l .well) (l .room .rows-fit) (l .room .bytes-fit)

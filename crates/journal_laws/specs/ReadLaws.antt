@@ -9,40 +9,31 @@ use native.Mathlib.Omega.{arith}
 use native.Mathlib.Decide.{decLe, ℕ-discrete}
 use lib.ListN.{length, take, drop, length-append}
 use lib.Seq.{take-append-add, take-append-le, drop-at, length-take-le}
-use lib.Dec.{leb, ltb, eqb}
-use borrow.Author.Tests.{le-leb, lt-leb, eq-eqb, ne-eqb, le-ltb, ltb-false}
+use lib.Dec.{leb, eqb}
+use borrow.Author.Tests.{le-leb, lt-leb, eq-eqb, ne-eqb}
 use Rattle.base.specs.Logic.{pick, flat, fold}
 use Rattle.base.specs.Laws.{length-digits}
-use Rattle.base.specs.ListLaws.{or-false}
 use Rattle.base.specs.Answers.{refused, taken}
 use Rattle.base.specs.declared.Refusal.{Refusal}
 use Rattle.base.specs.declared.Refusal.the-variants.{ShortRecord}
 use Rattle.base.specs.declared.Answer.{Answer}
 use Rattle.base.specs.declared.Answer.the-variants.{Taken, Refused}
-use Rattle.cell_nursery.specs.Entries.{State, empty, cellBytes}
+use Rattle.cell_nursery.specs.Entries.{State, empty}
 use Rattle.cell_nursery.specs.Items.{Delta}
-use Rattle.cell_nursery.specs.Delta.{Room, present, used, full, stateAfter, applyDelta}
+use Rattle.cell_nursery.specs.Delta.{Room, present, full, stateAfter, applyDelta}
+use Rattle.cell_nursery.specs.WaitLaws.{Waits, none-gone, waits-after}
 use Rattle.cell_nursery.specs.LayoutLaws.{WellFormed}
 use Rattle.cell_nursery.specs.EntryLaws.{well-after, InRoom, room-after}
 use Rattle.format.specs.Payload.{payloadBytes}
 use Rattle.format.specs.Record.{Decoding, statsOf, hashed, recordBytes, decode}
 use Rattle.format.specs.RecordLaws.{Fits, decode-whole, decode-cut}
 use Rattle.journal.specs.Journal.{End, readFrom, readJournal, readFrom-taken, readFrom-refused}
-use Rattle.journal_laws.specs.WaitLaws.{Waits, used-waits, none-gone, waits-after}
 use Rattle.journal_laws.specs.DeltaLaws.{Accepted, accepted-taken}
 
--- a delta that a nursery accepts is accepted by one with the same entries that all wait
-pub accepted-again : (m : Room) (s u : State) (d : Delta) → u .entries ≡ s .entries → Waits [] u → Accepted m s d → Accepted m u d
-unfolding present full used
-accepted-again m s u d e w a =
-    let f = or-false (ltb (m .entries) (used s + length (d .inserts))) (ltb (m .cells) (cellBytes (s .entries) + cellBytes (d .inserts))) (a .fits) in
-    let n = used-waits [] u w in
-    let k = ap length e in
-    record {
-      short = a .short;
-      new = rw e (a .new);
-      fits = rw (le-ltb (m .entries) (used u + length (d .inserts)) (omega (arith, ltb-false (m .entries) (used s + length (d .inserts)) (f .0))), e) (f .1);
-    }
+-- a delta that a nursery accepts is accepted by one with the same entries, whichever of them wait
+pub accepted-again : (m : Room) (s u : State) (d : Delta) → u .entries ≡ s .entries → Accepted m s d → Accepted m u d
+unfolding present full
+accepted-again m s u d e a = record { short = a .short; new = rw e (a .new); fits = rw e (a .fits) }
 
 -- what ends the reading of the first k bytes, of which the whole records are the first n
 abbrev pub endOf : ℕ → ℕ → Answer
@@ -103,7 +94,7 @@ module _ (hash : List ℕ → List ℕ) {A : Type 0} (id : A → ℕ) (delta : A
     pub applied-well : {s : State} {xs : List A} → Applies s xs → WellFormed s → WellFormed (applied-all xs s)
     unfolding applied-all fold
     applied-well done w = w
-    applied-well (more {s = s} {x = x} f a r) w = applied-well r (well-after (delta x) s (f .inserts) w)
+    applied-well (more {s = s} {x = x} f a r) w = applied-well r (well-after (delta x) s (f .inserts) (a .new) w)
 
     pub applied-fits : {s : State} {xs : List A} → Applies s xs → InRoom (m .entries) (m .cells) s → InRoom (m .entries) (m .cells) (applied-all xs s)
     unfolding applied-all fold

@@ -16,7 +16,7 @@ use Rattle.base.specs.declared.Answer.the-variants.{Taken, Refused}
 use Rattle.cell_nursery.specs.declared.Nursery.{Nursery}
 use Rattle.cell_nursery.specs.declared.Committed.{Committed}
 use Rattle.cell_nursery.specs.Entries.{State, empty, cellBytes}
-use Rattle.cell_nursery.specs.Delta.{Room, used, applyDelta}
+use Rattle.cell_nursery.specs.Delta.{Room, applyDelta}
 use Rattle.cell_nursery.specs.Layout.{recordOf, entriesTable, waitingTable, cellsTable, roomOf, stateOf, holds}
 use Rattle.cell_nursery.specs.Calls as nursery
 use Rattle.cell_nursery.specs.Calls.{Changed, laid, laidOut, newCall}
@@ -158,7 +158,7 @@ module _ (hash : List ℕ → List ℕ) (s : List ℕ) (r₀ : Nursery) (es₀ w
               let whole = decode-whole rest hash d bytes i in
               let (ok, same) = taken-accepted (roomOf es ws cs) here (d .delta) t p in
               let read = delta-read 2 inserts removes (take (size - 16) (drop 56 rest)) (d .delta) (u8-part 56 (size - 16) rest bytes) (whole .items) in
-              let well : WellFormed t = rw same (well-after (d .delta) here (delta-fits 0 inserts removes (d .delta) (omega arith) read (ok .short) .inserts) (is-held .well)) in
+              let well : WellFormed t = rw same (well-after (d .delta) here (delta-fits 0 inserts removes (d .delta) (omega arith) read (ok .short) .inserts) (ok .new) (is-held .well)) in
               let fit : InRoom (min (length es / 8) (length ws / 5)) (length cs) t = rw same (room-after (roomOf es ws cs) (d .delta) here (ok .fits)) in
               let state-same : stateOf (q .nursery) es' ws' cs' ≡ t = rw (a, f, g, h) (stateOf-laid t (length es) (length ws) (length cs) well (fit .rows-fit) (fit .bytes-fit)) in
               let turn = next-taken hash (roomOf es₀ ws₀ cs₀) here applied place t d rest some-left i (rw room-same at p) in
@@ -193,8 +193,8 @@ module _ (hash : List ℕ → List ℕ) (s : List ℕ) (r₀ : Nursery) (es₀ w
 
 -- ---- an empty nursery, made in tables of any content
 module _ (es ws cs : List ℕ) (c : Committed) (es' ws' cs' : List ℕ) (e : nursery.effect c es' ws' cs' ≡ newCall es ws cs) where
-  no-rows : used empty ≤ min (length es / 8) (length ws / 5)
-  unfolding empty used
+  no-rows : length (empty .entries) ≤ min (length es / 8) (length ws / 5)
+  unfolding empty
   no-rows = omega arith
 
   no-bytes : cellBytes (empty .entries) ≤ length cs

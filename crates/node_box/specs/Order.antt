@@ -1,19 +1,22 @@
 -- A box's calls one after the other: document 01's sequence of two allocations and two batches, what the plain box makes of the
--- calls, and which records a journal has, fixed by evaluation. The order of each call's refusals stands in the crate that has the call.
+-- calls, which records a journal has, and where every entry waits, fixed by evaluation. The order of each call's refusals stands in the crate that has the call.
 -- Assumes nothing.
 use mathlib.Core.Path.{_≡_, refl}
-use Prim.Native.Nat.{ℕ, _*_}
+use Prim.Native.Nat.{ℕ, _*_, _^_}
 use mathlib.Core.Bool.{true, false}
 use mathlib.Core.Option.{Option, none, some}
-use mathlib.Core.List.{List, [], _∷_}
+use mathlib.Core.List.{List, [], _∷_, map}
 use lib.ListN.{length, take}
-use Rattle.base.specs.Logic.{zeros}
+use Rattle.base.specs.Logic.{zeros, max64}
 use Rattle.base.specs.Answers.{answerNumber}
-use Rattle.cell_nursery.specs.Entries.{Entry}
+use Rattle.base.specs.declared.Answer.the-variants.{Taken}
+use Rattle.counters.specs.declared.CounterTransition.{CounterTransition}
+use Rattle.cell_nursery.specs.Entries.{Entry, State}
 use Rattle.cell_nursery.specs.Items.{Delta, itemBytes}
-use Rattle.node_box.specs.Box.{Box, Call, allocate, batch, delta, drain, made, step, run, answers}
+use Rattle.node_box.specs.Box.{Box, Call, allocate, batch, batchRecords, delta, drain, adjust, measure, locate, made, step, run, answers}
 use Rattle.node_box.specs.Plain.{Plain, Cell, freshPlain, plainStep, runPlain}
 use Rattle.node_box.specs.Journal.{Logged, loggedOf, whole}
+use Rattle.node_box.specs.Demand.{typed, everyEntryWaits}
 use Rattle.node_box.specs.Open.{evaluation}
 
 -- a fresh box at next index 0, with room for two counts, two entries and two cell bytes
@@ -23,6 +26,14 @@ box = made 0 (zeros 4) (zeros 16) (zeros 10) (zeros 2)
 -- two allocations, batch (1, 0 → 3)(0, 0 → 1), batch (1, 2 → 5)
 abbrev calls : List Call
 calls = allocate ∷ allocate ∷ batch (1 ∷ 0 ∷ 3 ∷ 0 ∷ 0 ∷ 1 ∷ []) ∷ batch (1 ∷ 2 ∷ 5 ∷ []) ∷ []
+
+-- a record of an index, an old and a new count
+abbrev move : ℕ → ℕ → ℕ → CounterTransition
+move i old new = record { idx = record { 0 = i }; «old_raw» = old; «new_raw» = new }
+
+-- the box with a count and a cell byte that its records don't know of
+abbrev broken : Box
+broken = record { counters = box .counters; counts = 0 ∷ 2 ∷ 0 ∷ 0 ∷ []; nursery = box .nursery; entries = box .entries; waiting = box .waiting; cells = 8 ∷ 0 ∷ [] }
 
 -- answer, next index and live total after a call on the box that the first n calls leave
 abbrev line : ℕ → Call → List ℕ
@@ -55,6 +66,10 @@ pair = record { bytes = 8 ∷ 9 ∷ []; after = [] }
 abbrev left : ℕ → ℕ
 left k = length (whole k (pair ∷ pair ∷ []))
 
+-- the hash 1, born at 5, and waiting rows of that hash
+abbrev rows : List ℕ → State
+rows rounds = record { entries = entry ∷ []; waiting = map (λ r. record { born = r; hash = 1 }) rounds }
+
 pub record BoxLines : Type 0 where
   -- answer, next and live of the four calls
   first-allocation : line 0 allocate ≡ 0 ∷ 1 ∷ 0 ∷ []
@@ -63,6 +78,19 @@ pub record BoxLines : Type 0 where
   second-batch : line 3 (batch (1 ∷ 2 ∷ 5 ∷ [])) ≡ 5 ∷ 2 ∷ 2 ∷ []
   -- the table after them: count 3 at index 1, and nothing for the count 1 at index 0
   table : run box calls .counts ≡ 1 ∷ 3 ∷ 0 ∷ 0 ∷ []
+  -- the first batch as records leaves the same box, and the second is refused with the same number
+  records : line 2 (batchRecords (move 1 0 3 ∷ move 0 0 1 ∷ [])) ≡ 0 ∷ 2 ∷ 2 ∷ []
+  records-box : step (run box (take 2 calls)) (batchRecords (move 1 0 3 ∷ move 0 0 1 ∷ [])) .1 ≡ run box (take 3 calls)
+  records-refused : line 3 (batchRecords (move 1 2 5 ∷ [])) ≡ 5 ∷ 2 ∷ 2 ∷ []
+  -- the loan moves the threshold and nothing else: it doubles, and after a good save it is as at the start
+  adjust-doubled : run box (adjust 0 ∷ []) .counters .maintenance .«min_alive_removed_before_shrink» ≡ 262144
+  adjust-back : run box (adjust 0 ∷ adjust 1048576 ∷ []) ≡ box
+  -- measuring and locating leave the box; on tables that hold no state they are 20, where the loan, which is lent none, is taken
+  measure-taken : step (run box calls) measure ≡ (Taken, run box calls)
+  locate-taken : step (run box calls) (locate 1) ≡ (Taken, run box calls)
+  measure-broken : answerNumber (step broken measure .0) ≡ 20
+  locate-broken : answerNumber (step broken (locate 1) .0) ≡ 20
+  adjust-broken : answerNumber (step broken (adjust 0) .0) ≡ 0
   -- a fresh plain box has the count 1 at every index
   plain-fresh : freshPlain 0 .count 7 ≡ 1
   -- the plain box is fed which calls were accepted; next, live and the counts follow
@@ -76,6 +104,10 @@ pub record BoxLines : Type 0 where
   plain-death-live : plainStep plain (batch (1 ∷ 3 ∷ 0 ∷ [])) true .live ≡ 1
   -- a transition with old = new is dropped
   plain-dropped : plainStep plain (batch (1 ∷ 9 ∷ 9 ∷ [])) true .count 1 ≡ 3
+  -- records are a batch
+  plain-records : plainStep plain (batchRecords (move 1 3 0 ∷ [])) true .count 1 ≡ 1
+  plain-records-live : plainStep plain (batchRecords (move 1 3 0 ∷ [])) true .live ≡ 1
+  plain-records-dropped : plainStep plain (batchRecords (move 1 9 9 ∷ [])) true .count 1 ≡ 3
   -- a refused call is no step
   plain-refused : plainStep plain (batch (1 ∷ 3 ∷ 0 ∷ [])) false .count 1 ≡ 3
   -- an insert sets its hash's entry, and then a remove leaves its hash none
@@ -84,6 +116,10 @@ pub record BoxLines : Type 0 where
   plain-remove : changed (1 ∷ []) .entry 1 ≡ none
   -- draining is no step
   plain-drain : plainStep (changed []) (drain 105 44) true .entry 1 ≡ some (record { idx = 7; born = 5; cell = 8 ∷ 9 ∷ [] })
+  -- nor are the loan, measuring and locating
+  plain-adjust : plainStep (changed []) (adjust 0) true ≡ changed []
+  plain-measure : plainStep (changed []) measure true ≡ changed []
+  plain-locate : plainStep (changed []) (locate 1) true ≡ changed []
   -- a delta without an item leaves no record
   logged-none : logged 0 ≡ 0
   logged-one : logged 1 ≡ 1
@@ -91,6 +127,15 @@ pub record BoxLines : Type 0 where
   cut-before : left 1 ≡ 0
   cut-behind : left 2 ≡ 1
   cut-within : left 3 ≡ 1
+  -- a record's fields are u64
+  typed-most : typed (batchRecords (move max64 max64 max64 ∷ [])) ≡ true
+  typed-past : typed (batchRecords (move 0 (2 ^ 64) 0 ∷ [])) ≡ false
+  -- an entry waits by a row of its own hash and round; no row is another's, and none stands twice
+  waits : everyEntryWaits (rows (5 ∷ [])) ≡ true
+  waits-not : everyEntryWaits (rows []) ≡ false
+  waits-other-round : everyEntryWaits (rows (6 ∷ [])) ≡ false
+  waits-twice : everyEntryWaits (rows (5 ∷ 5 ∷ [])) ≡ false
+  waits-too-many : everyEntryWaits (rows (5 ∷ 6 ∷ [])) ≡ false
 
 pub box-lines : BoxLines
 unfolding evaluation
@@ -101,6 +146,16 @@ box-lines =
       first-batch = refl;
       second-batch = refl;
       table = refl;
+      records = refl;
+      records-box = refl;
+      records-refused = refl;
+      adjust-doubled = refl;
+      adjust-back = refl;
+      measure-taken = refl;
+      locate-taken = refl;
+      measure-broken = refl;
+      locate-broken = refl;
+      adjust-broken = refl;
       plain-fresh = refl;
       accepted = refl;
       plain-next = refl;
@@ -110,14 +165,27 @@ box-lines =
       plain-death = refl;
       plain-death-live = refl;
       plain-dropped = refl;
+      plain-records = refl;
+      plain-records-live = refl;
+      plain-records-dropped = refl;
       plain-refused = refl;
       plain-insert = refl;
       plain-other = refl;
       plain-remove = refl;
       plain-drain = refl;
+      plain-adjust = refl;
+      plain-measure = refl;
+      plain-locate = refl;
       logged-none = refl;
       logged-one = refl;
       cut-before = refl;
       cut-behind = refl;
       cut-within = refl;
+      typed-most = refl;
+      typed-past = refl;
+      waits = refl;
+      waits-not = refl;
+      waits-other-round = refl;
+      waits-twice = refl;
+      waits-too-many = refl;
     }

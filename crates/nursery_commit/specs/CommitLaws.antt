@@ -3,7 +3,7 @@
 use mathlib.Core.Path.{_≡_, sym, ap, _∙_}
 use mathlib.Core.Bool.{Bool, true, false, _||_}
 use mathlib.Core.List.{List, map}
-use Prim.Native.Nat.{ℕ, _+_, _-_, _*_, _/_, _≤_, _<_, min, max}
+use Prim.Native.Nat.{ℕ, _+_, _-_, _*_, _/_, _≤_, _<_, min}
 use native.Mathlib.Omega.{arith}
 use lib.ListN.{length}
 use lib.Dec.{ltb}
@@ -16,10 +16,10 @@ use Rattle.rows.specs.Keys.{firstFour, keys}
 use Rattle.cell_nursery.specs.declared.Nursery.{Nursery}
 use Rattle.cell_nursery.specs.declared.Committed.{Committed}
 use Rattle.cell_nursery.specs.Entries.{cellBytes, insert, remove}
-use Rattle.cell_nursery.specs.Delta.{tooLong, present, used, full, stateAfter, applyDelta}
+use Rattle.cell_nursery.specs.Delta.{tooLong, present, full, stateAfter, applyDelta}
 use Rattle.cell_nursery.specs.Layout.{roomOf, stateOf, holds}
 use Rattle.cell_nursery.specs.Calls.{Changed, effect, laid, laidOut, onState, lengthWidth, deltaCall}
-use Rattle.cell_nursery.specs.LayoutLaws.{Held, number-entries, number-waiting, entries-keys, bytes-same}
+use Rattle.cell_nursery.specs.LayoutLaws.{Held, number-entries, entries-keys, bytes-same}
 use Rattle.delta_items.specs.Walk.{insertsIn, insertsLen, itemsFit, deltaIn, longCell}
 use Rattle.delta_items.specs.WalkLaws.{delta-whole, delta-none, fit-inserts, inserts-cells, length-inserts, too-long}
 use Rattle.nursery_steps.specs.Steps.{left}
@@ -73,12 +73,12 @@ module _ (r : Nursery) (es ws cs : List ℕ) (x : Held r es ws cs) (w n m : ℕ)
   present-same = sym (ap (λ (ks : List ℕ). any (λ e. elem (e .hash) ks) (insertsIn w n items) || repeated (map (λ e. e .hash) (insertsIn w n items))) (entries-keys r es cs (x .entries)))
 
   pub full-same : itemsFit w n m items ≡ true → (at : ℕ) → at ≡ insertsLen w n items
-      → (ltb (min (length es / 8) (length ws / 5)) (max (r .entries) (r .waiting) + n) || ltb (length cs) (r .«cell_bytes» + (at - n * (44 + w))))
+      → (ltb (min (length es / 8) (length ws / 5)) (r .entries + n) || ltb (length cs) (r .«cell_bytes» + (at - n * (44 + w))))
       ≡ full (roomOf es ws cs) (stateOf r es ws cs) (deltaIn w n m items)
-  unfolding full used roomOf stateOf deltaIn
+  unfolding full roomOf stateOf deltaIn
   full-same f at e =
       let c : at - n * (44 + w) ≡ cellBytes (insertsIn w n items) = omega (arith, e, inserts-cells w n items (fit-inserts w n m items f)) in
-      rw (c, number-entries r es cs, number-waiting r ws, length-inserts w n items, bytes-same r es cs (x .entries) (x .cells))
+      rw (c, number-entries r es cs, length-inserts w n items, bytes-same r es cs (x .entries) (x .cells))
 
   pub short-cells : tooLong (deltaIn w n m items) ≡ false → longCell (insertsIn w n items) ≡ false
   short-cells t = or-left _ _ (or-left (longCell (insertsIn w n items) || ltb max32 n) _ (sym (too-long w n m items) ∙ t))

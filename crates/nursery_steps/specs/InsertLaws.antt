@@ -21,7 +21,6 @@ use Rattle.rows.specs.Wide.{keyOf}
 use Rattle.rows.specs.WideLaws.{Words}
 use Rattle.cell_nursery.specs.declared.Nursery.{Nursery}
 use Rattle.cell_nursery.specs.Entries.{Entry, cellBytes, insert}
-use Rattle.cell_nursery.specs.Delta.{used}
 use Rattle.cell_nursery.specs.Layout.{HashWords, hashWords, entryRow, entryRowOf, waitingRowOf, recordOf, entriesTable, waitingTable, cellsTable, roomOf, entriesOf, stateOf}
 use Rattle.cell_nursery.specs.Calls.{laid}
 use Rattle.cell_nursery.specs.HashLaws.{words-hash, U64}
@@ -79,12 +78,12 @@ module _ (r : Nursery) (es ws cs : List ℕ) (u : U64 es) (v : U64 ws) (e : Entr
   waiting-used = number-waiting r ws
 
   pub entry-room : r .entries * 8 + 8 ≤ length es
-  unfolding used roomOf
+  unfolding roomOf
   entry-room = omega (arith, rows-fit 8 (suc (r .entries)) es (omega arith) (omega (arith, x .rows, entries-used)))
 
   pub waiting-room : r .waiting * 5 + 5 ≤ length ws
-  unfolding used roomOf
-  waiting-room = omega (arith, rows-fit 5 (suc (r .waiting)) ws (omega arith) (omega (arith, x .rows, waiting-used)))
+  unfolding roomOf
+  waiting-room = omega (arith, rows-fit 5 (suc (r .waiting)) ws (omega arith) (omega (arith, x .rows, entries-used, all-held .fewer)))
 
   pub cell-room : r .«cell_bytes» + length (e .cell) ≤ length cs
   cell-room = omega (arith, x .bytes, bytes-used)

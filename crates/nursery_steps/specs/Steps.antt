@@ -11,7 +11,6 @@ use Rattle.rows.specs.declared.Wide.{Wide}
 use Rattle.rows.specs.Wide.{keyOf}
 use Rattle.cell_nursery.specs.declared.Nursery.{Nursery}
 use Rattle.cell_nursery.specs.Entries.{Entry, cellBytes}
-use Rattle.cell_nursery.specs.Delta.{used}
 use Rattle.cell_nursery.specs.Layout.{roomOf, stateOf, holds}
 use Rattle.cell_nursery.specs.Calls.{Changed, effect}
 
@@ -27,5 +26,5 @@ left r es ws cs = effect (record { answer = Taken; nursery = r }) es ws cs
 pub record Insertable (r : Nursery) (es ws cs : List ℕ) (e : Entry) : Type 0 where
   pub held : holds r es ws cs ≡ true
   pub absent : elem (e .hash) (map (λ x. x .hash) (stateOf r es ws cs .entries)) ≡ false
-  pub rows : suc (used (stateOf r es ws cs)) ≤ roomOf es ws cs .entries
+  pub rows : suc (length (stateOf r es ws cs .entries)) ≤ roomOf es ws cs .entries
   pub bytes : cellBytes (stateOf r es ws cs .entries) + length (e .cell) ≤ length cs

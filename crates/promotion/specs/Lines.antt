@@ -11,9 +11,9 @@ use Rattle.base.specs.Answers.{answerNumber}
 use Rattle.cell_nursery.specs.Entries.{Entry}
 use Rattle.cell_nursery.specs.Items.{itemBytes}
 use Rattle.cell_nursery.specs.Drain.{promotedBytes}
-use Rattle.node_box.specs.Box.{Box, Call, delta, drain, made, step, run}
+use Rattle.node_box.specs.Box.{Box, Call, delta, drain, made, drainInto, step, run}
 use Rattle.node_box.specs.Open.{evaluation}
-use Rattle.promotion.specs.Promotion.{fresh, lentDelta, roundOf, promotedBy, promotedIn, drainInto, anyAccepted, withHash, promotes, Inserted}
+use Rattle.promotion.specs.Promotion.{lentDelta, roundOf, promotedBy, promotedIn, anyAccepted, withHash, promotes, Inserted}
 
 -- a fresh box with room for two entries and two cell bytes
 abbrev box : Box
@@ -113,7 +113,7 @@ lines =
       claim-early = refl;
       claim-refused = refl;
       claim-again = refl;
-      inserted = record { reachable = fresh 0 [] (zeros 16) (zeros 10) (zeros 2); arguments = refl; inserts = here refl; taken = refl; stays = refl };
+      inserted = record { state = record { held = refl; words = refl }; arguments = refl; inserts = here refl; taken = refl; stays = refl };
       not-removed = λ i. true≢false (i .stays);
       not-passing = λ i. true≢false (i .stays);
       passing-taken = refl;

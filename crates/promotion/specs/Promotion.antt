@@ -15,27 +15,31 @@ use Rattle.blake3.specs.Spec.{hash}
 use Rattle.cell_nursery.specs.Entries.{Entry}
 use Rattle.cell_nursery.specs.Items.{Delta, deltaOf}
 use Rattle.cell_nursery.specs.Drain.{promotionDelay, promoted, promotedBytes}
-use Rattle.cell_nursery.specs.Calls.{DrainedOut, lengthWidth, drainCall}
-use Rattle.node_box.specs.Box.{Box, Call, allocate, batch, delta, drain, get, shrink, serialize, lookup, listing, made, accepted, step, run, nurseryOf}
+use Rattle.cell_nursery.specs.Layout.{holds}
+use Rattle.cell_nursery.specs.Calls.{lengthWidth}
+use Rattle.node_box.specs.Box.{Box, Call, allocate, batch, batchRecords, delta, drain, get, shrink, adjust, measure, serialize, lookup, locate, listing, made, accepted, drainInto, step, run, nurseryOf}
 use Rattle.node_box.specs.Journal.{rebuild}
 use Rattle.node_box.specs.Demand.{typed}
 
--- a box that was made, or read in from a snapshot and a journal of any bytes, after any calls on it
-pub data Reachable : Box → Type 0 where
-  fresh : (next : ℕ) (t es ws cs : List ℕ) → Reachable (made next t es ws cs)
-  rebuilt : (snapshot journal t es ws cs : List ℕ) → all (λ b. ltb b 256) journal ≡ true → Reachable (rebuild hash snapshot journal t es ws cs .box)
-  called : {b : Box} → Reachable b → (x : Call) → typed x ≡ true → Reachable (step b x .1)
+-- the nursery's record and tables hold a state; the words of its tables are u64, as a slice's are
+pub record HoldsState (b : Box) : Type 0 where
+  pub held : holds (b .nursery) (b .entries) (b .waiting) (b .cells) ≡ true
+  pub words : all (λ w. ltb w (2 ^ 64)) (b .entries ++ b .waiting) ≡ true
 
 -- the delta that a call lends; none where it lends none
 unfoldable pub lentDelta : Call → Option Delta
 lentDelta allocate = none
 lentDelta (batch words) = none
+lentDelta (batchRecords ts) = none
 lentDelta (delta id wide inserts removes items) = deltaOf (lengthWidth wide) inserts removes items
 lentDelta (drain round out) = none
 lentDelta (get idx) = none
 lentDelta (shrink saved) = none
+lentDelta (adjust saved) = none
+lentDelta measure = none
 lentDelta (serialize out) = none
 lentDelta (lookup h) = none
+lentDelta (locate h) = none
 lentDelta (listing out) = none
 
 -- the entries that it is to insert, and the hashes that it is to remove
@@ -49,12 +53,16 @@ removesOf x = maybe [] (λ d. d .removes) (lentDelta x)
 unfoldable pub roundOf : Call → Option ℕ
 roundOf allocate = none
 roundOf (batch words) = none
+roundOf (batchRecords ts) = none
 roundOf (delta id wide inserts removes items) = none
 roundOf (drain round out) = some round
 roundOf (get idx) = none
 roundOf (shrink saved) = none
+roundOf (adjust saved) = none
+roundOf measure = none
 roundOf (serialize out) = none
 roundOf (lookup h) = none
+roundOf (locate h) = none
 roundOf (listing out) = none
 
 -- the entries that a call hands out: those of an accepted drain
@@ -65,10 +73,6 @@ promotedBy b x = maybe [] (λ round. pick (accepted (step b x .0)) (promoted pro
 unfoldable pub promotedIn : Box → List Call → List Entry
 promotedIn b [] = []
 promotedIn b (x ∷ xs) = promotedBy b x ++ promotedIn (step b x .1) xs
-
--- the call of a drain at a round into an output of any content
-abbrev pub drainInto : Box → ℕ → List ℕ → DrainedOut
-drainInto b round out = drainCall promotionDelay (b .nursery) (b .entries) (b .waiting) (b .cells) round out
 
 -- one of the calls is accepted and passes a test
 unfoldable pub anyAccepted : (Call → Bool) → Box → List Call → Bool
@@ -96,10 +100,10 @@ dueFrom e = e .born + promotionDelay
 abbrev pub promotes : Entry → Box → List Call → ℕ → ℕ → Bool
 promotes e b xs round out = accepted (step (run b xs) (drain round out) .0) && leb (dueFrom e) round && not (drainsFrom (dueFrom e) b xs)
 
--- The call x inserts e: on a box that can be reached, an accepted delta with e among its inserts.
+-- The call x inserts e: on a box that holds a state, an accepted delta with e among its inserts.
 -- Neither it nor any accepted delta among the calls xs after it removes e's hash.
 pub record Inserted (e : Entry) (b : Box) (x : Call) (xs : List Call) : Type 0 where
-  pub reachable : Reachable b
+  pub state : HoldsState b
   pub arguments : all typed (x ∷ xs) ≡ true
   pub inserts : Among e (insertsOf x)
   pub taken : step b x .0 ≡ Taken
@@ -128,6 +132,11 @@ pub record PromotedOnce (e : Entry) (b : Box) (xs : List Call) : Type 0 where
       (drainInto (run b xs) round out .result .len ≡ length written) × (drainInto (run b xs) round out .out ≡ overlay written out)
 
 pub record Promotion : Type 0 where
+  -- a box that is made, or read in from a snapshot and a journal of any bytes, holds a state, and any call on one leaves one; the cells are a slice
+  pub made-holds : (next : ℕ) (t es ws cs : List ℕ) → length cs < 2 ^ 64 → HoldsState (made next t es ws cs)
+  pub rebuilt-holds : (snapshot journal t es ws cs : List ℕ) → all (λ b. ltb b 256) journal ≡ true → length cs < 2 ^ 64
+      → HoldsState (rebuild hash snapshot journal t es ws cs .box)
+  pub called-holds : (b : Box) (x : Call) → HoldsState b → typed x ≡ true → length (b .cells) < 2 ^ 64 → HoldsState (step b x .1)
   -- an entry that isn't removed is handed out once, whatever is called from its insert on
   pub once : (e : Entry) (b : Box) (x : Call) (xs : List Call) → Inserted e b x xs → PromotedOnce e b (x ∷ xs)
   -- under a hash that has no entry, before its insert or after its remove, nothing is

@@ -5,13 +5,13 @@ use mathlib.Core.Bool.{Bool, true, false, not, _&&_, _||_, and-false, or-assoc}
 use mathlib.Core.Bool.{or-false as or-none}
 use mathlib.Core.Option.{Option, none, some}
 use mathlib.Core.List.{List, [], _∷_, _++_, map}
-use Prim.Native.Nat.{ℕ, _<_}
+use Prim.Native.Nat.{ℕ, _^_, _<_}
 use native.Mathlib.Omega.{arith}
 use lib.ListN.{length, length-replicate}
 use lib.Dec.{leb, ltb, eqb}
 use borrow.Author.Tests.{le-leb, lt-leb}
 use Rattle.base.specs.Logic.{pick, all, elem, flat, keep, zeros, overlay}
-use Rattle.base.specs.ListLaws.{or-false, Among, keep-append, all-head, all-tail}
+use Rattle.base.specs.ListLaws.{or-false, Among, keep-append, all-append, all-head, all-tail, all-left, all-right}
 use Rattle.base.specs.Maybe.{maybe}
 use Rattle.base.specs.Answers.{taken, _>>_, refuseIf}
 use Rattle.base.specs.Output.{fitting}
@@ -21,20 +21,21 @@ use Rattle.blake3.specs.Spec.{hash}
 use Rattle.cell_nursery.specs.Entries.{Entry, State, empty}
 use Rattle.cell_nursery.specs.Drain.{promotionDelay, due, promoted, promotedBytes, drained, drainBytes}
 use Rattle.cell_nursery.specs.DrainLaws.{named-absent}
-use Rattle.cell_nursery.specs.Layout.{roomOf}
+use Rattle.cell_nursery.specs.Layout.{entriesTable, waitingTable, roomOf}
 use Rattle.cell_nursery.specs.Calls.{DrainedOut, drainedOut}
 use Rattle.journal.specs.Journal.{readJournal, readCall}
 use Rattle.journal_laws.specs.LoadLaws.{journal-loaded}
-use Rattle.node_box.specs.Box.{Box, Call, allocate, batch, delta, drain, get, shrink, serialize, lookup, listing, made, accepted, step, run, nurseryOf}
+use Rattle.node_box.specs.Box.{Box, Call, allocate, batch, batchRecords, delta, drain, get, shrink, adjust, measure, serialize, lookup, locate, listing, made, accepted, drainInto, step, run, nurseryOf}
 use Rattle.node_box.specs.Journal.{rebuild}
 use Rattle.node_box.specs.Demand.{typed}
 use Rattle.demand3.specs.States.{nurseryAfter}
-use Rattle.demand3.specs.NurseryHeld.{NurseryHeld, laid-held, new-nursery, nursery-state, delta-taken, drain-outcome}
+use Rattle.demand3.specs.NurseryHeld.{NurseryHeld, held-nursery, laid-held, new-nursery, nursery-holds, nursery-state, delta-taken, drain-outcome}
 use Rattle.demand3.specs.Holding.{answer-taken, nursery-taken, refused-same}
-use Rattle.promotion.specs.Promotion.{Reachable, fresh, rebuilt, called, lentDelta, insertsOf, removesOf, roundOf, promotedBy, promotedIn, drainInto, anyAccepted, drainsFrom, removesHash, withHash, dueFrom, promotes, Inserted, PromotedOnce, Promotion}
+use Rattle.demand3.specs.TableWords.{all-words, entries-table, waiting-table}
+use Rattle.promotion.specs.Promotion.{HoldsState, lentDelta, insertsOf, removesOf, roundOf, promotedBy, promotedIn, anyAccepted, drainsFrom, removesHash, withHash, dueFrom, promotes, Inserted, PromotedOnce, Promotion}
 use Rattle.promotion.specs.TrackLaws.{Tracked, track-delta, track-new, track-drain, track-promoted}
 
--- ---- a box that can be reached holds a nursery's state
+-- ---- a box that holds a nursery's state
 record Held (b : Box) : Type 0 where
   le : ℕ
   lw : ℕ
@@ -45,21 +46,43 @@ record Held (b : Box) : Type 0 where
 abbrev held-taken : {b : Box} (h : Held b) (x : Call) → typed x ≡ true → accepted (step b x .0) ≡ true → Held (step b x .1)
 held-taken {b} h x t e = record { le = h .le; lw = h .lw; lc = h .lc; state = nurseryAfter x (h .state); held = nursery-taken b (h .held) x t e }
 
-held-step : {b : Box} → Held b → (x : Call) → typed x ≡ true → Held (step b x .1)
-held-step {b} h x t = go (accepted (step b x .0)) refl
-  where
-    go : (ok : Bool) → accepted (step b x .0) ≡ ok → Held (step b x .1)
-    go true e = held-taken h x t e
-    go false e = rw (refused-same b (h .held) x e) h
+-- one that holds a state, and the other way round where the cells are a slice
+state-held : {b : Box} → HoldsState b → Held b
+state-held {b} h =
+    let u64 : ℕ → Bool = λ w. ltb w (2 ^ 64) in
+    let u = all-words (b .entries) (all-left u64 (b .entries) (b .waiting) (h .words)) in
+    let v = all-words (b .waiting) (all-right u64 (b .entries) (b .waiting) (h .words)) in
+    record { le = length (b .entries); lw = length (b .waiting); lc = length (b .cells); state = nurseryOf b; held = held-nursery (b .nursery) (b .entries) (b .waiting) (b .cells) u v (h .held) }
 
-reachable-held : {b : Box} → Reachable b → Held b
-unfolding made rebuild readCall
-reachable-held (fresh next t es ws cs) = record { le = length es; lw = length ws; lc = length cs; state = empty; held = new-nursery es ws cs }
-reachable-held (rebuilt snapshot journal t es ws cs b) =
-    let l = journal-loaded hash (roomOf es ws cs) journal b in
+held-state : {b : Box} (h : Held b) → h .lc < 2 ^ 64 → HoldsState b
+held-state {b} h l =
+    let n = h .held in
+    record {
+      held = nursery-holds n;
+      words =
+          rw (n .same-entries, n .same-waiting)
+          (all-append (λ w. ltb w (2 ^ 64)) (entriesTable (h .le) (h .state)) (waitingTable (h .lw) (h .state))
+          (entries-table (h .le) (h .state) (n .well) (omega (arith, n .cells-fit, l))) (waiting-table (h .lw) (h .state) (n .well)));
+    }
+
+made-holds : (next : ℕ) (t es ws cs : List ℕ) → length cs < 2 ^ 64 → HoldsState (made next t es ws cs)
+unfolding made
+made-holds next t es ws cs l = held-state (record { le = length es; lw = length ws; lc = length cs; state = empty; held = new-nursery es ws cs }) l
+
+rebuilt-holds : (snapshot journal t es ws cs : List ℕ) → all (λ b. ltb b 256) journal ≡ true → length cs < 2 ^ 64 → HoldsState (rebuild hash snapshot journal t es ws cs .box)
+unfolding rebuild readCall roomOf
+rebuilt-holds snapshot journal t es ws cs b l =
+    let r = journal-loaded hash (roomOf es ws cs) journal b in
     let s = readJournal hash (roomOf es ws cs) journal .state in
-    record { le = length es; lw = length ws; lc = length cs; state = s; held = unfold roomOf in (laid-held es ws cs s [] (l .well) (l .room) (l .waits)) }
-reachable-held (called r x t) = held-step (reachable-held r) x t
+    held-state (record { le = length es; lw = length ws; lc = length cs; state = s; held = laid-held es ws cs s (r .well) (r .room) }) l
+
+called-holds : (b : Box) (x : Call) → HoldsState b → typed x ≡ true → length (b .cells) < 2 ^ 64 → HoldsState (step b x .1)
+unfolding state-held
+called-holds b x h t l = go (accepted (step b x .0)) refl
+  where
+    go : (ok : Bool) → accepted (step b x .0) ≡ ok → HoldsState (step b x .1)
+    go true e = held-state (held-taken (state-held h) x t e) l
+    go false e = rw (refused-same b (state-held h .held) x e) h
 
 -- ---- the box follows the entry
 record Follows (e : Entry) (out : Bool) (b : Box) : Type 0 where
@@ -78,14 +101,18 @@ module _ {e : Entry} {out : Bool} {b : Box} (f : Follows e out b) where
   unfolding nurseryAfter roundOf lentDelta step
   track-taken allocate a n = rw (or-none out) (f .tracked)
   track-taken (batch words) a n = rw (or-none out) (f .tracked)
+  track-taken (batchRecords ts) a n = rw (or-none out) (f .tracked)
   track-taken (delta id wide inserts removes items) a n =
       let d = delta-taken (f .held .held) wide inserts removes items (answer-taken _ a) in
       rw (or-none out, d .spelled) (track-delta e (d .change) (f .held .state) (d .accepted .new) (rw (d .spelled) at n) out (f .tracked))
   track-taken (drain round o) a n = track-drain promotionDelay round e out (f .held .state) (f .tracked)
   track-taken (get idx) a n = rw (or-none out) (f .tracked)
   track-taken (shrink saved) a n = rw (or-none out) (f .tracked)
+  track-taken (adjust saved) a n = rw (or-none out) (f .tracked)
+  track-taken measure a n = rw (or-none out) (f .tracked)
   track-taken (serialize o) a n = rw (or-none out) (f .tracked)
   track-taken (lookup k) a n = rw (or-none out) (f .tracked)
+  track-taken (locate k) a n = rw (or-none out) (f .tracked)
   track-taken (listing o) a n = rw (or-none out) (f .tracked)
 
   follow-step : (x : Call) → typed x ≡ true → (accepted (step b x .0) && removes e x) ≡ false → Follows e (out || (accepted (step b x .0) && drains e x)) (step b x .1)
@@ -141,12 +168,16 @@ undrained : {e : Entry} (x : Call) → Among e (insertsOf x) → roundOf x ≡ n
 unfolding roundOf lentDelta
 undrained allocate m = refl
 undrained (batch words) m = refl
+undrained (batchRecords ts) m = refl
 undrained (delta id wide inserts removes items) m = refl
 undrained (drain round out) m = elim m [ ]
 undrained (get idx) m = refl
 undrained (shrink saved) m = refl
+undrained (adjust saved) m = refl
+undrained measure m = refl
 undrained (serialize out) m = refl
 undrained (lookup key) m = refl
+undrained (locate key) m = refl
 undrained (listing out) m = refl
 
 module _ {e : Entry} {b : Box} (h : Held b) where
@@ -154,14 +185,18 @@ module _ {e : Entry} {b : Box} (h : Held b) where
   unfolding lentDelta step nurseryAfter
   track-inserted allocate a m n = elim m [ ]
   track-inserted (batch words) a m n = elim m [ ]
+  track-inserted (batchRecords ts) a m n = elim m [ ]
   track-inserted (delta id wide inserts removes items) a m n =
       let d = delta-taken (h .held) wide inserts removes items a in
-      rw (d .spelled) (track-new e (d .change) (h .state) (d .accepted .new) (rw (d .spelled) at n) (h .held .gone) (h .held .waits) (rw (d .spelled) at m))
+      rw (d .spelled) (track-new e (d .change) (h .state) (d .accepted .new) (rw (d .spelled) at n) (h .held .well .hashes) (h .held .well .ties) (rw (d .spelled) at m))
   track-inserted (drain round out) a m n = elim m [ ]
   track-inserted (get idx) a m n = elim m [ ]
   track-inserted (shrink saved) a m n = elim m [ ]
+  track-inserted (adjust saved) a m n = elim m [ ]
+  track-inserted measure a m n = elim m [ ]
   track-inserted (serialize out) a m n = elim m [ ]
   track-inserted (lookup key) a m n = elim m [ ]
+  track-inserted (locate key) a m n = elim m [ ]
   track-inserted (listing out) a m n = elim m [ ]
 
   follow-insert : (x : Call) → typed x ≡ true → step b x .0 ≡ Taken → Among e (insertsOf x) → removes e x ≡ false → Follows e false (step b x .1)
@@ -204,7 +239,7 @@ module _ {e : Entry} {b : Box} {x : Call} {xs : List Call} (i : Inserted e b x x
 
   begins : Follows e false (step b x .1)
   unfolding accepted
-  begins = follow-insert (reachable-held (i .reachable)) x (all-head typed x xs (i .arguments)) (i .taken) (i .inserts) (rw (i .taken) at (stays .0))
+  begins = follow-insert (state-held (i .state)) x (all-head typed x xs (i .arguments)) (i .taken) (i .inserts) (rw (i .taken) at (stays .0))
 
   -- the insert is no drain
   since : drainsFrom (dueFrom e) b (x ∷ xs) ≡ drainsFrom (dueFrom e) (step b x .1) xs
@@ -245,7 +280,7 @@ module _ {e : Entry} {b : Box} {x : Call} {xs : List Call} (i : Inserted e b x x
 
 pub promotion : Promotion
 unfolding promotedBy roundOf promoted keep
-promotion = record { once = λ e b x xs i. once i; absent = λ h b a round out. go h b a round (accepted (step b (drain round out) .0)) }
+promotion = record { made-holds = made-holds; rebuilt-holds = rebuilt-holds; called-holds = called-holds; once = λ e b x xs i. once i; absent = λ h b a round out. go h b a round (accepted (step b (drain round out) .0)) }
   where
     go : (h : ℕ) (b : Box) → elem h (map (λ e. e .hash) (nurseryOf b .entries)) ≡ false → (round : ℕ) (ok : Bool) → withHash h (pick ok (promoted promotionDelay round (nurseryOf b)) []) ≡ []
     go h b a round true = named-absent h (nurseryOf b .entries) a (keep (due promotionDelay round) (nurseryOf b .waiting))

@@ -13,13 +13,13 @@ use Rattle.base.specs.Logic.{pick, any, elem, fold, flat, keep, repeated, ascen
 use Rattle.base.specs.ListLaws.{or-false, fails-not, Among, here, there, some-one, some-weaker, elem-some, none-passes}
 use Rattle.base.specs.ListLaws.{keep-append, keep-swap, keep-narrow}
 use Rattle.rows.specs.Keys.{putRows}
-use Rattle.cell_nursery.specs.Entries.{Entry, Waiting, State, putWaiting, insert, remove}
+use Rattle.cell_nursery.specs.Entries.{Entry, Waiting, State, tied, putWaiting, insert, remove}
 use Rattle.cell_nursery.specs.Items.{Delta}
 use Rattle.cell_nursery.specs.Delta.{present, stateAfter}
 use Rattle.cell_nursery.specs.Drain.{due, named, promoted, drained}
 use Rattle.cell_nursery.specs.DrainLaws.{named-entryAt, named-rows}
 use Rattle.cell_nursery.specs.EntryLaws.{entryAt, elem-entryAt, entryAt-put, entryAt-removed}
-use Rattle.journal_laws.specs.WaitLaws.{waiterFor, Waits, waits-absent}
+use Rattle.cell_nursery.specs.WaitLaws.{waiterFor, tied-absent}
 use Rattle.promotion.specs.Promotion.{withHash}
 
 -- the waiting rows of a hash
@@ -130,12 +130,12 @@ module _ (e : Entry) (d : Delta) (s : State) (new : present s d ≡ false) (stay
           true≢false (sym there ∙ ap (λ (k : ℕ). elem k (hashesOf (s .entries))) same ∙ not-there))
 
   -- the one that inserts it
-  pub track-new : (gone : List Waiting) → Waits gone s → Among e (d .inserts) → Tracked e false (stateAfter d s)
+  pub track-new : ascending (hashesOf (s .entries)) ≡ true → tied s ≡ true → Among e (d .inserts) → Tracked e false (stateAfter d s)
   unfolding stateAfter present
-  track-new gone w m =
+  track-new o w m =
       let twice = or-false (any (λ i. elem (i .hash) (hashesOf (s .entries))) (d .inserts)) (repeated (hashesOf (d .inserts))) new .1 in
       let alone = none-passes (λ i. elem (i .hash) (hashesOf (s .entries))) (d .inserts) .0 absent e m in
-      track-removes e false (d .removes) (fold insert (d .inserts) s) stays (inserted e s m twice (waits-absent gone s w (e .hash) alone))
+      track-removes e false (d .removes) (fold insert (d .inserts) s) stays (inserted e s m twice (tied-absent s o w (e .hash) alone))
 
 -- ---- a drain
 module _ (delay round : ℕ) (e : Entry) (out : Bool) (s : State) (t : Tracked e out s) where

@@ -1,8 +1,7 @@
 // The rules of shrinking, over numbers alone: whether so many removals call for it, and the alive threshold after it.
 use counters::CounterMaintenance;
 ghost use mathlib.Core.Path.{_≡_};
-ghost use Rattle.counters.specs.Maintenance.{standard, shouldShrink, adjustShrinkThreshold};
-ghost use Rattle.counters.specs.MaintenanceLaws.{adjusted};
+ghost use Rattle.counters.specs.Maintenance.{standard, shouldShrink, adjustShrinkThreshold, adjusted};
 
 // The alive threshold starts here, and starts again after a good save.
 const BASE: u64 = 131_072;

@@ -20,14 +20,13 @@ use Rattle.blake3.specs.Spec as blake3
 use Rattle.cell_nursery.specs.Entries.{State, empty}
 use Rattle.cell_nursery.specs.Items.{Delta, deltaOf}
 use Rattle.cell_nursery.specs.Delta.{Room, tooLong, present, full, stateAfter, applyDelta}
-use Rattle.cell_nursery.specs.Layout.{recordOf, entriesTable, waitingTable, cellsTable, roomOf}
-use Rattle.cell_nursery.specs.LayoutLaws.{holds-laid}
-use Rattle.cell_nursery.specs.Calls.{lengthWidth, laid}
+use Rattle.cell_nursery.specs.Layout.{roomOf}
+use Rattle.cell_nursery.specs.Calls.{lengthWidth}
 use Rattle.format.specs.Payload.{Payload, payloadOf}
 use Rattle.format.specs.Record.{Encoding, Decoding, statsOf, encode, decode}
 use Rattle.format.specs.Calls.{noStats, encodedOut, encodeCall, decodedOf, decodeCall}
 use Rattle.journal.specs.Journal.{readFrom, readJournal, readCall}
-use Rattle.journal_laws.specs.LoadLaws.{journal-loaded}
+use Rattle.journal_laws.specs.LoadLaws.{read-holds}
 use Rattle.journal_read.specs.RecordLaws.{U8, u8-bytes}
 use Rattle.state_words.specs.WordLaws.{over-nursery}
 use Rattle.state_words.specs.Words.{brokenSaid, overNursery, Unchanged, left}
@@ -126,10 +125,8 @@ module _ (bs w es ws cs : List ℕ) where
 -- ---- what is left may be lent to the held forms, whatever ended the reading
 pub journal-held : (bs w es ws cs : List ℕ) → U8 bs → length w ≡ 3
     → let s = journalSaid bs w es ws cs in Held (left 0 s) (left 1 s) (left 2 s) (left 3 s)
-unfolding journalSaid readInSaid readCall laid roomOf
+unfolding journalSaid readInSaid
 journal-held bs w es ws cs u e =
-    let t = readJournal blake3.hash (roomOf es ws cs) bs .state in
-    let l = journal-loaded blake3.hash (roomOf es ws cs) bs (u8-bytes bs u) in
+    let c = readCall blake3.hash bs es ws cs in
     subst (λ s. Held (left 0 s) (left 1 s) (left 2 s) (left 3 s)) (over-nursery w _ _ e)
-    (words-held (recordOf t) (entriesTable (length es) t) (waitingTable (length ws) t) (cellsTable (length cs) t)
-    (holds-laid t (length es) (length ws) (length cs) (l .well) (l .room .rows-fit) (l .room .bytes-fit)))
+    (words-held (c .result .nursery) (c .entries) (c .waiting) (c .cells) (read-holds blake3.hash bs es ws cs (u8-bytes bs u)))

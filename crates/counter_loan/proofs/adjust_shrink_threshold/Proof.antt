@@ -40,8 +40,7 @@ use denote.Triple.Walked.{says, Stays, stay-ref, stay-none, walkOf, AllGo, goes-
 use denote.Triple.Clauses.{ensured, lasts}
 use denote.Exit.{yes}
 use Rattle.counters.specs.declared.CounterMaintenance.{CounterMaintenance}
-use Rattle.counters.specs.Maintenance.{standard}
-use Rattle.counters.specs.MaintenanceLaws.{adjusted}
+use Rattle.counters.specs.Maintenance.{standard, adjusted}
 use Rattle.counters.proofs.CounterMaintenance as T
 use Rattle.counters.proofs.CounterMaintenance.Laws as T′
 use Rattle.shrink_rules.proofs.adjust_shrink_threshold as by-value

@@ -53,6 +53,7 @@ use denote.Exit.{yes as still}
 use Rattle.counters.specs.declared.CounterTransition.{CounterTransition}
 use Rattle.counters.specs.declared.Counters.{Counters}
 use Rattle.counters.specs.declared.Applied.{Applied}
+use Rattle.counters.specs.Layout.{wordsOf}
 use Rattle.counters.specs.Calls.{effect, batchCall}
 use Rattle.counters.specs.Steps.{transition}
 use Rattle.counters.proofs.CounterTransition as T
@@ -63,7 +64,6 @@ use Rattle.counters.proofs.Applied as R
 use Rattle.counters.proofs.Applied.Laws as R′
 use Rattle.counter_walk.specs.declared.Walk.{Walk}
 use Rattle.counter_walk.specs.Walk.{begun, turned, turnedTable, finished}
-use Rattle.counter_walk.specs.Words.{wordsOf}
 use Rattle.counter_walk.specs.WalkLaws.{Limits, Inv, left, inv-begin, inv-len, inv-end, inv-ready, inv-turn, inv-measure}
 use Rattle.counter_walk.proofs.Walk as S
 use Rattle.counter_walk.proofs.Walk.Laws as S′

@@ -1,4 +1,4 @@
-use Prim.Native.Nat.{_/_, min, max}
+use Prim.Native.Nat.{_/_, min}
 use Rattle.delta_checks.specs.ChecksLaws.{room-short}
 use Prim.Native.Nat.{_+_, _-_}
 use native.Mathlib.Omega.{arith}
@@ -11,34 +11,22 @@ sub-if1 : tie.Need-sub-if1
 sub-if1 c = search needs
 
 returns : tie.Need-returns
-returns c = let a = c .before .before .args in rw (lt-ltb (min (a .es / 8) (a .ws / 5)) (max (a .r .entries) (a .r .waiting) + a .rows) (omega arith))
+returns c = let a = c .before .before .args in rw (lt-ltb (min (a .es / 8) (a .ws / 5)) (a .r .entries + a .rows) (omega arith))
 
 sub-if2 : tie.Need-sub-if2
 sub-if2 c = search needs
 
 returns-2 : tie.Need-returns-2
-returns-2 c = let a = c .before .before .before .before .args in rw (lt-ltb (min (a .es / 8) (a .ws / 5)) (max (a .r .entries) (a .r .waiting) + a .rows) (omega arith))
-
-sub-if3 : tie.Need-sub-if3
-sub-if3 c = search needs
-
-returns-3 : tie.Need-returns-3
-returns-3 c = let a = c .before .before .before .before .before .before .args in rw (lt-ltb (min (a .es / 8) (a .ws / 5)) (max (a .r .entries) (a .r .waiting) + a .rows) (omega arith))
-
-sub-if4 : tie.Need-sub-if4
-sub-if4 c = search needs
-
-returns-4 : tie.Need-returns-4
-returns-4 c = let a = c .before .before .before .before .before .before .before .before .args in rw (lt-ltb (min (a .es / 8) (a .ws / 5)) (max (a .r .entries) (a .r .waiting) + a .rows) (omega arith))
+returns-2 c = let a = c .before .before .before .before .args in rw (lt-ltb (min (a .es / 8) (a .ws / 5)) (a .r .entries + a .rows) (omega arith))
 
 sub-result : tie.Need-sub-result
 sub-result c = search needs
 
-returns-5 : tie.Need-returns-5
-returns-5 c =
-    let s = c .before .before .before .before .before .before .before .before .before in
+returns-3 : tie.Need-returns-3
+returns-3 c =
+    let s = c .before .before .before .before .before in
     let a = s .args in
-    rw (le-ltb (min (a .es / 8) (a .ws / 5)) (max (a .r .entries) (a .r .waiting) + a .rows) (omega arith)) (room-short (a .cs) (a .r .«cell_bytes») (a .bytes) (s .pre .1))
+    rw (le-ltb (min (a .es / 8) (a .ws / 5)) (a .r .entries + a .rows) (omega arith)) (room-short (a .cs) (a .r .«cell_bytes») (a .bytes) (s .pre .1))
 
 pub is-full-spec : {M : Type 1} → statement M
 is-full-spec =
@@ -48,9 +36,5 @@ is-full-spec =
     returns
     sub-if2
     returns-2
-    sub-if3
-    returns-3
-    sub-if4
-    returns-4
     sub-result
-    returns-5)
+    returns-3)

@@ -1,5 +1,5 @@
 use mathlib.Core.Bool.{_||_}
-use Prim.Native.Nat.{_/_, min, max}
+use Prim.Native.Nat.{_/_, min}
 use lib.Dec.{ltb}
 use Rattle.base.specs.Logic.{all}
 use Rattle.cell_nursery.specs.declared.Committed.{Committed}
@@ -56,7 +56,7 @@ fills c =
     let f = c .before .before .before .before .before .before .before .before in
     let a = c .before .before .before .before .before .before .before .before .before .before .before .before .before .before .before .args in
     c .is-full .ensures
-    ∙ ap (λ (b : ℕ). ltb (min (length (a .es .now) / 8) (length (a .ws .now) / 5)) (max (a .r .entries) (a .r .waiting) + a .inserts) || ltb (length (a .cs .now)) (a .r .«cell_bytes» + b)) (c .before .cell-bytes .ensures)
+    ∙ ap (λ (b : ℕ). ltb (min (length (a .es .now) / 8) (length (a .ws .now) / 5)) (a .r .entries + a .inserts) || ltb (length (a .cs .now)) (a .r .«cell_bytes» + b)) (c .before .cell-bytes .ensures)
     ∙ full-same (a .r) (a .es .now) (a .ws .now) (a .cs .now) (holding f) (lengthWidth (a .wide)) (a .inserts) (a .removes) (a .items .now) (fit f .0) (f .at .given .0 .0) (fit f .1)
 
 fitting : (c : tie.After-is-full) → let a = c .before .before .before .before .before .before .before .before .before .before .before .before .before .before .before .args in all fitsItem (deltaIn (lengthWidth (a .wide)) (a .inserts) (a .removes) (a .items .now) .inserts) ≡ true

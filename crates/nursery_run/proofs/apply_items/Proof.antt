@@ -29,7 +29,7 @@ apply-inserts-requires c κs =
       fit-inserts w (a .inserts) (a .removes) (a .items .now) (s .pre .0 .0),
       (
         x .held,
-        ready-start (a .r) (a .es .now) (a .ws .now) (a .cs .now) (u64-es f) (u64-ws f) (x .held) (deltaIn w (a .inserts) (a .removes) (a .items .now)) (x .fits) (x .room) (x .fresh),
+        ready-start (a .r) (a .es .now) (a .ws .now) (a .cs .now) (u64-es f) (u64-ws f) (x .held) (deltaIn w (a .inserts) (a .removes) (a .items .now)) (x .fits) (x .fresh) (x .room),
       ),
     )
 
@@ -42,7 +42,7 @@ apply-removes-requires c κs =
     let x = s .pre .1 in
     let w = lengthWidth (a .wide) in (
       omega (arith, s .pre .0 .1, fit-removes w (a .inserts) (a .removes) (a .items .now) (s .pre .0 .0)),
-      held-mid (a .r) (a .es .now) (a .ws .now) (a .cs .now) (u64-es f) (u64-ws f) (x .held) (deltaIn w (a .inserts) (a .removes) (a .items .now)) (x .fits) (x .room) _ _ _ _ (c .before .before .before .before .before .before .before .before .before .apply-inserts .ensures),
+      held-mid (a .r) (a .es .now) (a .ws .now) (a .cs .now) (u64-es f) (u64-ws f) (x .held) (deltaIn w (a .inserts) (a .removes) (a .items .now)) (x .fits) (x .fresh) (x .room) _ _ _ _ (c .before .before .before .before .before .before .before .before .before .apply-inserts .ensures),
     )
 
 same-length : tie.Need-same-length
@@ -62,7 +62,7 @@ returns c =
     let a = s .args in
     let x = s .pre .1 in
     let w = lengthWidth (a .wide) in
-    delta-done (a .r) (a .es .now) (a .ws .now) (a .cs .now) (u64-es f) (u64-ws f) (x .held) (deltaIn w (a .inserts) (a .removes) (a .items .now)) (x .fits) (x .room) _ _ _ _ (c .before .before .before .before .before .before .before .before .before .before .before .before .before .before .before .before .apply-inserts .ensures) _ _ _ _
+    delta-done (a .r) (a .es .now) (a .ws .now) (a .cs .now) (u64-es f) (u64-ws f) (x .held) (deltaIn w (a .inserts) (a .removes) (a .items .now)) (x .fits) (x .fresh) (x .room) _ _ _ _ (c .before .before .before .before .before .before .before .before .before .before .before .before .before .before .before .before .apply-inserts .ensures) _ _ _ _
     (rw (s .pre .0 .1) at (c .before .before .before .before .before .before .apply-removes .ensures))
 
 pub apply-items-spec : {M : Type 1} → statement M

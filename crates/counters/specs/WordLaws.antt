@@ -11,17 +11,13 @@ use lib.Seq.{take-length}
 use Rattle.base.specs.Logic.{flat}
 use Rattle.rows.specs.Table.{rowsOf}
 use Rattle.rows.specs.TableLaws.{length-words, words-rowsOf, rowsOf-words}
 use Rattle.counters.specs.declared.Applied.{Applied}
 use Rattle.counters.specs.declared.Counters.{Counters}
 use Rattle.counters.specs.declared.CounterTransition.{CounterTransition}
 use Rattle.counters.specs.Batch.{applyBatch}
 use Rattle.counters.specs.Calls.{Changed, onState, laidOut, effect, batchCall}
-use Rattle.counters.specs.Layout.{transitionRow, roomOf, batchOf}
+use Rattle.counters.specs.Layout.{transitionRow, roomOf, wordsOf, batchOf}
 use Rattle.counters.specs.Steps.{transitions}
-
--- the words that records spell: index, old, new of each
-unfoldable pub wordsOf : List CounterTransition → List ℕ
-wordsOf ts = flat (transitionRow .enc) ts
 
 -- lent words that aren't ragged are spelled by their transitions: every batch of words is one of records
 pub words-spelled : (ws : List ℕ) → length ws % 3 ≡ 0 → wordsOf (transitions ws) ≡ ws
