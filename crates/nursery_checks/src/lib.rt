@@ -1,4 +1,4 @@
-// Whether the nursery's lent tables hold a state. A check is linear in its table.
+// Whether the nursery's lent tables hold a state: a pass over each table, and a look-up for each waiting row.
 use cell_nursery::Nursery;
 ghost use mathlib.Core.Path.{_≡_};
 ghost use Prim.Native.Nat.{_*_, _≤_};
@@ -93,7 +93,7 @@ pub fn holds_cells(r: Nursery, cs: &[u8]) -> bool
     byte_slices::zero_from(cs, n)
 }
 
-// Whether the record and the three tables are those of a state: neither table of rows uses more than the other has room for.
+// Whether the record and the three tables are those of a state: the waiting table has a row for each entry, and each waiting row is an entry's.
 pub fn holds(r: Nursery, es: &[u64], ws: &[u64], cs: &[u8]) -> bool
     ensures { λ b. ⌜ b ≡ layout.holds r (now (es .entry)) (now (ws .entry)) (now (cs .entry)) ⌝ }
 {
@@ -109,5 +109,5 @@ pub fn holds(r: Nursery, es: &[u64], ws: &[u64], cs: &[u8]) -> bool
     if ws.len() / 5 < r.entries {
         return false;
     }
-    r.waiting <= es.len() / 8
+    waiting_checks::tied(r, es, ws)
 }

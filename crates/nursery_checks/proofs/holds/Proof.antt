@@ -1,7 +1,8 @@
 -- `nursery_checks::holds` meets its contract: test after test.
 -- Assumes nothing.
 use borrow.Author.Tests.{not-true, not-false}
-use Rattle.cell_nursery.specs.CheckLaws.{holds-not-entries, holds-not-waiting, holds-not-cells, holds-narrow, holds-room}
+use Rattle.cell_nursery.specs.CheckLaws.{holds-not-entries, holds-not-waiting, holds-not-cells, holds-narrow, holds-tied}
+use Rattle.cell_nursery.specs.LayoutLaws.{entries-held, waiting-held}
 use mathlib.Core.Path.{sym, _∙_}
 use borrow.Author.Needs.{needs}
 use Rattle.nursery_checks.proofs.holds.Statement.{statement}
@@ -34,10 +35,15 @@ returns-4 c =
     let a = c .before .before .before .before .before .before .before .before .before .before .before .args in
     holds-narrow (a .r) (a .es .now) (a .ws .now) (a .cs .now) (sym (c .before .before .before .before .before .before .before .holds-entries .ensures) ∙ not-false _ (c .before .before .before .before .before .before .if1 .left)) (sym (c .before .before .before .before .before .holds-waiting .ensures) ∙ not-false _ (c .before .before .before .before .if2 .left)) (sym (c .before .before .before .holds-cells .ensures) ∙ not-false _ (c .before .before .if3 .left)) (c .if4 .taken)
 
+tied-requires : tie.Need-tied-requires
+tied-requires c κs =
+    let a = c .before .before .before .before .before .before .before .before .before .before .before .args in
+    (entries-held (a .r) (a .es .now) (sym (c .before .before .before .before .before .before .before .holds-entries .ensures) ∙ not-false _ (c .before .before .before .before .before .before .if1 .left)), waiting-held (a .r) (a .ws .now) (sym (c .before .before .before .before .before .holds-waiting .ensures) ∙ not-false _ (c .before .before .before .before .if2 .left)))
+
 returns-5 : tie.Need-returns-5
 returns-5 c =
     let a = c .before .before .before .before .before .before .before .before .before .before .before .before .args in
-    holds-room (a .r) (a .es .now) (a .ws .now) (a .cs .now) (sym (c .before .before .before .before .before .before .before .before .holds-entries .ensures) ∙ not-false _ (c .before .before .before .before .before .before .before .if1 .left)) (sym (c .before .before .before .before .before .before .holds-waiting .ensures) ∙ not-false _ (c .before .before .before .before .before .if2 .left)) (sym (c .before .before .before .before .holds-cells .ensures) ∙ not-false _ (c .before .before .before .if3 .left)) (c .before .if4 .left)
+    c .tied .ensures (a .cs .now) ∙ holds-tied (a .r) (a .es .now) (a .ws .now) (a .cs .now) (sym (c .before .before .before .before .before .before .before .before .holds-entries .ensures) ∙ not-false _ (c .before .before .before .before .before .before .before .if1 .left)) (sym (c .before .before .before .before .before .before .holds-waiting .ensures) ∙ not-false _ (c .before .before .before .before .before .if2 .left)) (sym (c .before .before .before .before .holds-cells .ensures) ∙ not-false _ (c .before .before .before .if3 .left)) (c .before .if4 .left)
 
 pub holds-spec : {M : Type 1} → statement M
 holds-spec =
@@ -50,4 +56,5 @@ holds-spec =
     holds-cells-requires
     returns-3
     returns-4
+    tied-requires
     returns-5)
