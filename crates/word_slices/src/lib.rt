@@ -1,10 +1,10 @@
-// Parts of slices of words: moved, filled, copied, compared. Each function says what the whole slice is afterwards, so that a caller
+// Parts of slices of words: moved, filled, copied. Each function says what the whole slice is afterwards, so that a caller
 // composes lists and goes through no loop.
 ghost use mathlib.Core.Path.{_≡_};
 ghost use Prim.Native.Nat.{_+_, _≤_};
 ghost use lib.ListN.{length, drop, replicate};
 ghost use lib.Seq.{paste};
-ghost use Rattle.base.specs.Logic.{eqbList, allZero};
+ghost use Rattle.base.specs.Logic.{allZero};
 
 // The n words from index `from` go to index `to`, which is no higher: the first goes first, so that each is read before its
 // place is written.
@@ -56,23 +56,7 @@ pub fn copy_at(out: &mut [u64], at: usize, s: &[u64])
     }
 }
 
-// Whether the two are the same. Every word is looked at, with no way out of the loop: so it takes several words a turn.
-pub fn equal(a: &[u64], b: &[u64]) -> bool
-    ensures { λ r. ⌜ r ≡ eqbList (now (a .entry)) (now (b .entry)) ⌝ }
-{
-    if a.len() != b.len() {
-        return false;
-    }
-    let mut same = true;
-    let mut i = 0;
-    while i < a.len() {
-        same = same & (a[i] == b[i]);
-        i += 1;
-    }
-    same
-}
-
-// Whether every word from index `at` on is 0. Every word is looked at, as in `equal`.
+// Whether every word from index `at` on is 0. Every word is looked at, with no way out of the loop: so it takes several words a turn.
 pub fn zero_from(t: &[u64], at: usize) -> bool
     requires { ⌜ at ≤ length (now t) ⌝ }
     ensures { λ r. ⌜ r ≡ allZero (drop at (now (t .entry))) ⌝ }
