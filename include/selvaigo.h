@@ -2,12 +2,13 @@
  *
  * Link libselvaigo.a, which tools/staticlib.sh writes to target/staticlib.
  *
- * A slice is a pointer and a number of elements; a pointer of an empty slice is not null and aligned for its element. A value is
- * written through a pointer to as many elements as its brackets say. Slices of one call that are written don't overlap any
- * other. No call keeps a pointer, allocates, or takes a lock, and every call ends.
+ * A slice is a pointer and a number of elements; a pointer of an empty slice is not null and aligned for its element. State records,
+ * hashes and values are pointers to as many elements as their brackets say. What a call writes overlaps nothing else that it is
+ * given. No call keeps a pointer, allocates, or takes a lock, and every call ends.
  *
  * Every call but three returns an answer: 0 where it was taken, else the number of its refusal (SELVAIGO_...). Beside a refusal
- * values are zeros, and no slice is changed. Output beyond an answer isn't touched.
+ * values are zeros, and no record and no slice is changed. Output beyond an answer isn't touched. Making counters or a nursery
+ * and reading a journal are never refused; a journal's answer says what ended it.
  *
  * A box is two state records and four tables, which the caller owns and lends to each call in the size and with the content that
  * the call before left. docs/LAYOUT.md has them word by word.
@@ -19,10 +20,9 @@
  *   waiting  5 words for each of them
  *   cells    a byte for each byte of their cells
  *
- * A state record in a slice of another length is SELVAIGO_BROKEN, before all else. Tables that hold no state in that layout are
- * SELVAIGO_BROKEN too. The check is a pass over the tables that the call is lent. A caller that lets nothing but these calls
- * write its records and tables may use the forms named .._held, which test neither. Over records of another length, or tables
- * that hold no state, these promise nothing, not even to stay within them. */
+ * A record and tables that hold no state in that layout are SELVAIGO_BROKEN, before all else. The check is a pass over the tables
+ * that the call is lent. A caller that lets nothing but these calls write its records and tables may use the forms named .._held,
+ * which don't test it. Over a record and tables that hold no state these promise nothing, not even to stay within them. */
 #ifndef SELVAIGO_H
 #define SELVAIGO_H
 
@@ -65,29 +65,29 @@ enum {
 
 /* ---- Counters ---- */
 
-/* Counters with nothing stored, whose next index is handed over: writes state and counts, whatever was in them. */
-uint8_t selvaigo_new(uint64_t next_idx, uint64_t *state, size_t state_len, uint64_t *counts, size_t counts_len);
+/* Counters with nothing stored, whose next index is handed over: writes state and counts, whatever was in them. Always taken. */
+uint8_t selvaigo_new(uint64_t next_idx, uint64_t state[SELVAIGO_STATE], uint64_t *counts, size_t counts_len);
 
 /* The next index, handed out: writes state, and idx[0]. */
-uint8_t selvaigo_alloc_idx(uint64_t *state, size_t state_len, uint64_t idx[1]);
+uint8_t selvaigo_alloc_idx(uint64_t state[SELVAIGO_STATE], uint64_t idx[1]);
 
 /* The count at an index: writes count[0]. */
-uint8_t selvaigo_get(const uint64_t *state, size_t state_len, const uint64_t *counts, size_t counts_len, uint64_t idx,
+uint8_t selvaigo_get(const uint64_t state[SELVAIGO_STATE], const uint64_t *counts, size_t counts_len, uint64_t idx,
                      uint64_t count[1]);
-uint8_t selvaigo_get_held(const uint64_t *state, size_t state_len, const uint64_t *counts, size_t counts_len, uint64_t idx,
+uint8_t selvaigo_get_held(const uint64_t state[SELVAIGO_STATE], const uint64_t *counts, size_t counts_len, uint64_t idx,
                           uint64_t count[1]);
 
 /* A batch of transitions, three words each: index, old count, new count. Writes state and counts, all of it or nothing. */
-uint8_t selvaigo_apply_batch(uint64_t *state, size_t state_len, uint64_t *counts, size_t counts_len, const uint64_t *batch,
+uint8_t selvaigo_apply_batch(uint64_t state[SELVAIGO_STATE], uint64_t *counts, size_t counts_len, const uint64_t *batch,
                              size_t batch_len);
-uint8_t selvaigo_apply_batch_held(uint64_t *state, size_t state_len, uint64_t *counts, size_t counts_len,
-                                  const uint64_t *batch, size_t batch_len);
+uint8_t selvaigo_apply_batch_held(uint64_t state[SELVAIGO_STATE], uint64_t *counts, size_t counts_len, const uint64_t *batch,
+                                  size_t batch_len);
 
 /* Maintenance: which of the sets are to be shrunk, given the bytes that shrinking the set of all stored indices saves. Writes
  * state, and shrunk[0] for that set and shrunk[1] to shrunk[8] for the eight sets of small counts: 1 yes, 0 no. */
-uint8_t selvaigo_shrink_if_needed(uint64_t *state, size_t state_len, const uint64_t *counts, size_t counts_len,
+uint8_t selvaigo_shrink_if_needed(uint64_t state[SELVAIGO_STATE], const uint64_t *counts, size_t counts_len,
                                   uint64_t bytes_saved, uint64_t shrunk[9]);
-uint8_t selvaigo_shrink_if_needed_held(uint64_t *state, size_t state_len, const uint64_t *counts, size_t counts_len,
+uint8_t selvaigo_shrink_if_needed_held(uint64_t state[SELVAIGO_STATE], const uint64_t *counts, size_t counts_len,
                                        uint64_t bytes_saved, uint64_t shrunk[9]);
 
 /* The rule of it alone, 1 yes, 0 no; and the threshold that follows a yes. These two and the hash refuse nothing. */
@@ -97,63 +97,63 @@ uint64_t selvaigo_adjust_shrink_threshold(uint64_t min_alive_removed_before_shri
 /* ---- Snapshots of the counters ---- */
 
 /* How many bytes the snapshot takes: writes len[0]. */
-uint8_t selvaigo_serialized_len(const uint64_t *state, size_t state_len, const uint64_t *counts, size_t counts_len,
+uint8_t selvaigo_serialized_len(const uint64_t state[SELVAIGO_STATE], const uint64_t *counts, size_t counts_len,
                                 uint64_t len[1]);
-uint8_t selvaigo_serialized_len_held(const uint64_t *state, size_t state_len, const uint64_t *counts, size_t counts_len,
+uint8_t selvaigo_serialized_len_held(const uint64_t state[SELVAIGO_STATE], const uint64_t *counts, size_t counts_len,
                                      uint64_t len[1]);
 
 /* The snapshot: writes the first len[0] bytes of out, and len[0]. */
-uint8_t selvaigo_serialize(const uint64_t *state, size_t state_len, const uint64_t *counts, size_t counts_len, uint8_t *out,
+uint8_t selvaigo_serialize(const uint64_t state[SELVAIGO_STATE], const uint64_t *counts, size_t counts_len, uint8_t *out,
                            size_t out_len, uint64_t len[1]);
-uint8_t selvaigo_serialize_held(const uint64_t *state, size_t state_len, const uint64_t *counts, size_t counts_len, uint8_t *out,
+uint8_t selvaigo_serialize_held(const uint64_t state[SELVAIGO_STATE], const uint64_t *counts, size_t counts_len, uint8_t *out,
                                 size_t out_len, uint64_t len[1]);
 
 /* The counters that a snapshot holds: writes state and counts, whatever was in them. A refusal changes neither. */
-uint8_t selvaigo_deserialize_trusted(const uint8_t *snapshot, size_t snapshot_len, uint64_t *state, size_t state_len,
+uint8_t selvaigo_deserialize_trusted(const uint8_t *snapshot, size_t snapshot_len, uint64_t state[SELVAIGO_STATE],
                                      uint64_t *counts, size_t counts_len);
 
 /* ---- Nursery ---- */
 
-/* An empty nursery: writes nursery, entries, waiting and cells, whatever was in them. */
-uint8_t selvaigo_nursery_new(uint64_t *nursery, size_t nursery_len, uint64_t *entries, size_t entries_len, uint64_t *waiting,
+/* An empty nursery: writes nursery, entries, waiting and cells, whatever was in them. Always taken. */
+uint8_t selvaigo_nursery_new(uint64_t nursery[SELVAIGO_NURSERY], uint64_t *entries, size_t entries_len, uint64_t *waiting,
                              size_t waiting_len, uint8_t *cells, size_t cells_len);
 
 /* A delta: as many inserts as stated (hash 32, index u64, born round u32, cell length u16, cell), then as many removes
  * (hash 32), end to end, little-endian; where wide isn't 0 a cell length is a u32. Writes nursery, entries, waiting and cells, all of it or
  * nothing. */
-uint8_t selvaigo_apply_commit(uint64_t *nursery, size_t nursery_len, uint64_t *entries, size_t entries_len, uint64_t *waiting,
+uint8_t selvaigo_apply_commit(uint64_t nursery[SELVAIGO_NURSERY], uint64_t *entries, size_t entries_len, uint64_t *waiting,
                               size_t waiting_len, uint8_t *cells, size_t cells_len, uint8_t wide, uint64_t inserts,
                               uint64_t removes, const uint8_t *items, size_t items_len);
-uint8_t selvaigo_apply_commit_held(uint64_t *nursery, size_t nursery_len, uint64_t *entries, size_t entries_len,
-                                   uint64_t *waiting, size_t waiting_len, uint8_t *cells, size_t cells_len, uint8_t wide,
-                                   uint64_t inserts, uint64_t removes, const uint8_t *items, size_t items_len);
+uint8_t selvaigo_apply_commit_held(uint64_t nursery[SELVAIGO_NURSERY], uint64_t *entries, size_t entries_len, uint64_t *waiting,
+                                   size_t waiting_len, uint8_t *cells, size_t cells_len, uint8_t wide, uint64_t inserts,
+                                   uint64_t removes, const uint8_t *items, size_t items_len);
 
 /* The waiting entries born at or before round - 100, by born round, then arrival; they stay as entries and wait no longer. Writes
  * nursery, waiting, len[0], and the first len[0] bytes of out: for each hash 32, index u64, cell length u16, cell. */
-uint8_t selvaigo_drain_promotable(uint64_t *nursery, size_t nursery_len, const uint64_t *entries, size_t entries_len,
-                                  uint64_t *waiting, size_t waiting_len, const uint8_t *cells, size_t cells_len,
-                                  uint32_t round, uint8_t *out, size_t out_len, uint64_t len[1]);
-uint8_t selvaigo_drain_promotable_held(uint64_t *nursery, size_t nursery_len, const uint64_t *entries, size_t entries_len,
+uint8_t selvaigo_drain_promotable(uint64_t nursery[SELVAIGO_NURSERY], const uint64_t *entries, size_t entries_len,
+                                  uint64_t *waiting, size_t waiting_len, const uint8_t *cells, size_t cells_len, uint32_t round,
+                                  uint8_t *out, size_t out_len, uint64_t len[1]);
+uint8_t selvaigo_drain_promotable_held(uint64_t nursery[SELVAIGO_NURSERY], const uint64_t *entries, size_t entries_len,
                                        uint64_t *waiting, size_t waiting_len, const uint8_t *cells, size_t cells_len,
                                        uint32_t round, uint8_t *out, size_t out_len, uint64_t len[1]);
 
 /* The index of a hash: writes found[0], 1 where there is an entry, and its index into found[1]. */
-uint8_t selvaigo_get_idx(const uint64_t *nursery, size_t nursery_len, const uint64_t *entries, size_t entries_len,
+uint8_t selvaigo_get_idx(const uint64_t nursery[SELVAIGO_NURSERY], const uint64_t *entries, size_t entries_len,
                          const uint8_t hash[32], uint64_t found[2]);
-uint8_t selvaigo_get_idx_held(const uint64_t *nursery, size_t nursery_len, const uint64_t *entries, size_t entries_len,
+uint8_t selvaigo_get_idx_held(const uint64_t nursery[SELVAIGO_NURSERY], const uint64_t *entries, size_t entries_len,
                               const uint8_t hash[32], uint64_t found[2]);
 
 /* The cell of a hash: writes found[0], 1 where there is an entry, and where its cell lies in cells: place found[1], length found[2]. */
-uint8_t selvaigo_get_data(const uint64_t *nursery, size_t nursery_len, const uint64_t *entries, size_t entries_len,
+uint8_t selvaigo_get_data(const uint64_t nursery[SELVAIGO_NURSERY], const uint64_t *entries, size_t entries_len,
                           const uint8_t *cells, size_t cells_len, const uint8_t hash[32], uint64_t found[3]);
-uint8_t selvaigo_get_data_held(const uint64_t *nursery, size_t nursery_len, const uint64_t *entries, size_t entries_len,
+uint8_t selvaigo_get_data_held(const uint64_t nursery[SELVAIGO_NURSERY], const uint64_t *entries, size_t entries_len,
                                const uint8_t *cells, size_t cells_len, const uint8_t hash[32], uint64_t found[3]);
 
 /* The listing, by ascending hash: writes len[0] and the first len[0] bytes of out, each entry as a delta's insert that isn't wide. It takes 46 bytes
  * for each entry beside the cells: nursery[0] * 46 + nursery[2]. */
-uint8_t selvaigo_snapshot_entries(const uint64_t *nursery, size_t nursery_len, const uint64_t *entries, size_t entries_len,
+uint8_t selvaigo_snapshot_entries(const uint64_t nursery[SELVAIGO_NURSERY], const uint64_t *entries, size_t entries_len,
                                   const uint8_t *cells, size_t cells_len, uint8_t *out, size_t out_len, uint64_t len[1]);
-uint8_t selvaigo_snapshot_entries_held(const uint64_t *nursery, size_t nursery_len, const uint64_t *entries, size_t entries_len,
+uint8_t selvaigo_snapshot_entries_held(const uint64_t nursery[SELVAIGO_NURSERY], const uint64_t *entries, size_t entries_len,
                                        const uint8_t *cells, size_t cells_len, uint8_t *out, size_t out_len, uint64_t len[1]);
 
 /* ---- Hash, records, journal ---- */
@@ -172,10 +172,10 @@ uint8_t selvaigo_decode_record(const uint8_t *bytes, size_t bytes_len, uint64_t 
 
 /* A journal, read into an empty nursery: writes nursery, entries, waiting and cells, whatever was in them, and read: records
  * applied, and the place after the last of them. The answer is 0 at the journal's end, else the number of what its first record that wasn't
- * applied is refused with; what was applied stays. Only SELVAIGO_BROKEN changes nothing. */
-uint8_t selvaigo_read_journal(const uint8_t *journal, size_t journal_len, uint64_t *nursery, size_t nursery_len,
-                              uint64_t *entries, size_t entries_len, uint64_t *waiting, size_t waiting_len, uint8_t *cells,
-                              size_t cells_len, uint64_t read[2]);
+ * applied is refused with, which is never SELVAIGO_BROKEN; what was applied stays. */
+uint8_t selvaigo_read_journal(const uint8_t *journal, size_t journal_len, uint64_t nursery[SELVAIGO_NURSERY], uint64_t *entries,
+                              size_t entries_len, uint64_t *waiting, size_t waiting_len, uint8_t *cells, size_t cells_len,
+                              uint64_t read[2]);
 
 #ifdef __cplusplus
 }

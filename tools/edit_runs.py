@@ -6,7 +6,7 @@
 
 An edit is made in a copy and run, unproved, by tools/edit.sh in the programs that use its crate, one after the other, until one writes something else
 than it should. What none tells from the right program is named at the end: such an edit makes no wrong program, or the lists of calls have no step that
-shows it (they call no held form, and lend no record of another length). Nothing is proved by this, and the gate doesn't need it: it is for the day when
+shows it (they call no held form). Nothing is proved by this, and the gate doesn't need it: it is for the day when
 code moves. It takes five minutes on two cores. Exit status: 1 where an edit could not be run at all.
 """
 import os

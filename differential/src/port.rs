@@ -64,19 +64,19 @@ fn unread(sizes: &Sizes) -> NurseryParts {
 impl Port {
     pub fn new(sizes: &Sizes) -> Self {
         let (mut state, mut counts) = ([7; 13], vec![7; sizes.counts]);
-        raw::new(NextIdx::new(sizes.next), &mut state, &mut counts).unwrap();
+        raw::new(NextIdx::new(sizes.next), &mut state, &mut counts);
         let counters = Counters::from_parts(state, counts.into()).unwrap();
         Port { held: sizes.held, counters, nursery: Self::empty(sizes) }
     }
 
     fn empty(sizes: &Sizes) -> CellNursery {
         let mut p = unread(sizes);
-        raw::nursery_new(&mut p.nursery, &mut p.entries, &mut p.waiting, &mut p.cells).unwrap();
+        raw::nursery_new(&mut p.nursery, &mut p.entries, &mut p.waiting, &mut p.cells);
         CellNursery::from_parts(p).unwrap()
     }
 
     /// A call over the record and the table of the counters, lent.
-    fn lend<T>(&mut self, call: impl FnOnce(&mut [u64], &mut [u64]) -> Result<T, Refusal>) -> Refused<T> {
+    fn lend<T>(&mut self, call: impl FnOnce(&mut [u64; 13], &mut [u64]) -> Result<T, Refusal>) -> Refused<T> {
         let (mut state, mut counts) = std::mem::replace(&mut self.counters, Counters::new(NextIdx::new(0), 0)).into_parts();
         let answer = call(&mut state, &mut counts);
         self.counters = Counters::from_parts(state, counts).expect("a state after a call");
@@ -91,7 +91,11 @@ impl Port {
     }
 
     pub fn new_counters(&mut self, next: u64) {
-        self.lend(|state, counts| raw::new(NextIdx::new(next), state, counts)).unwrap();
+        self.lend(|state, counts| {
+            raw::new(NextIdx::new(next), state, counts);
+            Ok(())
+        })
+        .unwrap();
     }
 
     pub fn alloc_idx(&mut self) -> Refused<u64> {
@@ -146,10 +150,10 @@ impl Port {
 
     pub fn deserialize_trusted(&mut self, snapshot: &[u8]) -> Refused<()> {
         self.lend(|state, counts| {
-            let before = (counts.len() <= 4096).then(|| (state.to_vec(), counts.to_vec()));
+            let before = (counts.len() <= 4096).then(|| (*state, counts.to_vec()));
             let answer = raw::deserialize_trusted(snapshot, state, counts);
             if let (Some((s, c)), Err(_)) = (before, &answer) {
-                assert!(s == state && c == counts, "a refused snapshot changes the port's tables");
+                assert!(s == *state && c == counts, "a refused snapshot changes the port's tables");
             }
             answer
         })

@@ -229,7 +229,7 @@ impl CellNursery {
     /// Where that is more than a slice can have.
     pub fn new(entries: usize, cell_bytes: usize) -> Self {
         let mut n = Self::zeros(entries, cell_bytes);
-        raw::nursery_new(&mut n.nursery, &mut n.entries, &mut n.waiting, &mut n.cells).expect("a record of the right length");
+        raw::nursery_new(&mut n.nursery, &mut n.entries, &mut n.waiting, &mut n.cells);
         n
     }
 
@@ -298,8 +298,7 @@ impl CellNursery {
         // SAFETY: held, see above.
         Refusal::of(unsafe {
             sys::selvaigo_apply_commit_held(
-                self.nursery.as_mut_ptr(),
-                self.nursery.len(),
+                &mut self.nursery,
                 self.entries.as_mut_ptr(),
                 self.entries.len(),
                 self.waiting.as_mut_ptr(),
@@ -344,8 +343,7 @@ impl CellNursery {
         // SAFETY: held, see above.
         Refusal::of(unsafe {
             sys::selvaigo_drain_promotable_held(
-                self.nursery.as_mut_ptr(),
-                self.nursery.len(),
+                &mut self.nursery,
                 self.entries.as_ptr(),
                 self.entries.len(),
                 self.waiting.as_mut_ptr(),
@@ -367,8 +365,7 @@ impl CellNursery {
         // SAFETY: held, see above.
         taken(unsafe {
             sys::selvaigo_get_data_held(
-                self.nursery.as_ptr(),
-                self.nursery.len(),
+                &self.nursery,
                 self.entries.as_ptr(),
                 self.entries.len(),
                 self.cells.as_ptr(),
@@ -385,14 +382,7 @@ impl CellNursery {
         let mut found = [0; 2];
         // SAFETY: held, see above.
         taken(unsafe {
-            sys::selvaigo_get_idx_held(
-                self.nursery.as_ptr(),
-                self.nursery.len(),
-                self.entries.as_ptr(),
-                self.entries.len(),
-                &hash.0,
-                &mut found,
-            )
+            sys::selvaigo_get_idx_held(&self.nursery, self.entries.as_ptr(), self.entries.len(), &hash.0, &mut found)
         });
         (found[0] != 0).then_some(Idx::new(found[1]))
     }
@@ -422,8 +412,7 @@ impl CellNursery {
         // SAFETY: held, see above.
         Refusal::of(unsafe {
             sys::selvaigo_snapshot_entries_held(
-                self.nursery.as_ptr(),
-                self.nursery.len(),
+                &self.nursery,
                 self.entries.as_ptr(),
                 self.entries.len(),
                 self.cells.as_ptr(),

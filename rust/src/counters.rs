@@ -114,7 +114,7 @@ impl Counters {
     pub fn new(next_idx: NextIdx, room: usize) -> Self {
         let mut counters = Self { state: [0; sys::STATE], counts: vec![0; words(room, 2)].into() };
         let Self { state, counts } = &mut counters;
-        raw::new(next_idx, state, counts).expect("a record of the right length");
+        raw::new(next_idx, state, counts);
         counters
     }
 
@@ -197,16 +197,7 @@ impl Counters {
     pub fn get(&self, idx: Idx) -> Result<RefCount, Refusal> {
         let mut count = [0];
         // SAFETY: held, see above.
-        Refusal::of(unsafe {
-            sys::selvaigo_get_held(
-                self.state.as_ptr(),
-                self.state.len(),
-                self.counts.as_ptr(),
-                self.counts.len(),
-                idx.0,
-                &mut count,
-            )
-        })?;
+        Refusal::of(unsafe { sys::selvaigo_get_held(&self.state, self.counts.as_ptr(), self.counts.len(), idx.0, &mut count) })?;
         Ok(RefCount(count[0]))
     }
 
@@ -221,8 +212,7 @@ impl Counters {
         // SAFETY: held, see above. A transition is three words with nothing between them, and there are as many as fit in memory.
         Refusal::of(unsafe {
             sys::selvaigo_apply_batch_held(
-                self.state.as_mut_ptr(),
-                self.state.len(),
+                &mut self.state,
                 self.counts.as_mut_ptr(),
                 self.counts.len(),
                 batch.as_ptr().cast(),
@@ -237,8 +227,7 @@ impl Counters {
         // SAFETY: held, see above.
         taken(unsafe {
             sys::selvaigo_shrink_if_needed_held(
-                self.state.as_mut_ptr(),
-                self.state.len(),
+                &mut self.state,
                 self.counts.as_ptr(),
                 self.counts.len(),
                 bytes_saved,
@@ -252,15 +241,7 @@ impl Counters {
     pub fn serialized_len(&self) -> usize {
         let mut len = [0];
         // SAFETY: held, see above.
-        taken(unsafe {
-            sys::selvaigo_serialized_len_held(
-                self.state.as_ptr(),
-                self.state.len(),
-                self.counts.as_ptr(),
-                self.counts.len(),
-                &mut len,
-            )
-        });
+        taken(unsafe { sys::selvaigo_serialized_len_held(&self.state, self.counts.as_ptr(), self.counts.len(), &mut len) });
         size(len[0])
     }
 
@@ -278,8 +259,7 @@ impl Counters {
         // SAFETY: held, see above.
         Refusal::of(unsafe {
             sys::selvaigo_serialize_held(
-                self.state.as_ptr(),
-                self.state.len(),
+                &self.state,
                 self.counts.as_ptr(),
                 self.counts.len(),
                 out.as_mut_ptr(),

@@ -55,9 +55,9 @@ fn size(number: u64) -> usize {
     usize::try_from(number).expect("a length in memory")
 }
 
-// The answer of a held call over tables that the port wrote, where nothing is left to refuse.
+// The answer where nothing is left to refuse: of a call that makes counters or a nursery, or of a held call over tables that the port wrote.
 fn taken(answer: u8) {
     if let Err(refusal) = Refusal::of(answer) {
-        panic!("the port refused its own tables: {refusal}");
+        panic!("the port refused what it always takes: {refusal}");
     }
 }

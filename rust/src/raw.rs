@@ -1,92 +1,78 @@
-//! The calls over records and tables that the caller lends, of any length and content: they are checked first, and what isn't in the
-//! layout of docs/LAYOUT.md is refused with [`Refusal::Broken`]. The check is a pass over what is lent.
+//! The calls over records and tables that the caller lends, of any content, and tables of any length: they are checked first, and what isn't in
+//! the layout of docs/LAYOUT.md is refused with [`Refusal::Broken`]. The check is a pass over what is lent.
 use std::ops::Range;
 
-use crate::{DeltaItems, HashBytes, Idx, JournalEnd, NextIdx, RefCount, Refusal, Shrunk, size, sys};
+use crate::{DeltaItems, HashBytes, Idx, JournalEnd, NextIdx, RefCount, Refusal, Shrunk, size, sys, taken};
 
 // SAFETY, of every call below: pointers and lengths are those of slices and arrays that are borrowed for the call, and what is borrowed to be
 // written overlaps nothing. The checked calls ask no more.
 
-/// Counters with nothing stored.
-pub fn new(next_idx: NextIdx, state: &mut [u64], counts: &mut [u64]) -> Result<(), Refusal> {
-    // SAFETY: slices, see above.
-    Refusal::of(unsafe { sys::selvaigo_new(next_idx.get(), state.as_mut_ptr(), state.len(), counts.as_mut_ptr(), counts.len()) })
+/// Counters with nothing stored, in a record and a table of any content.
+pub fn new(next_idx: NextIdx, state: &mut [u64; sys::STATE], counts: &mut [u64]) {
+    // SAFETY: an array and a slice, see above.
+    taken(unsafe { sys::selvaigo_new(next_idx.get(), state, counts.as_mut_ptr(), counts.len()) })
 }
 
 /// The next index, handed out.
-pub fn alloc_idx(state: &mut [u64]) -> Result<Idx, Refusal> {
+pub fn alloc_idx(state: &mut [u64; sys::STATE]) -> Result<Idx, Refusal> {
     let mut idx = [0];
-    // SAFETY: a slice and an array, see above.
-    Refusal::of(unsafe { sys::selvaigo_alloc_idx(state.as_mut_ptr(), state.len(), &mut idx) })?;
+    // SAFETY: arrays, see above.
+    Refusal::of(unsafe { sys::selvaigo_alloc_idx(state, &mut idx) })?;
     Ok(Idx::new(idx[0]))
 }
 
 /// The count at an index.
-pub fn get(state: &[u64], counts: &[u64], idx: Idx) -> Result<RefCount, Refusal> {
+pub fn get(state: &[u64; sys::STATE], counts: &[u64], idx: Idx) -> Result<RefCount, Refusal> {
     let mut count = [0];
-    // SAFETY: slices and an array, see above.
-    Refusal::of(unsafe { sys::selvaigo_get(state.as_ptr(), state.len(), counts.as_ptr(), counts.len(), idx.get(), &mut count) })?;
+    // SAFETY: slices and arrays, see above.
+    Refusal::of(unsafe { sys::selvaigo_get(state, counts.as_ptr(), counts.len(), idx.get(), &mut count) })?;
     Ok(RefCount::new(count[0]))
 }
 
 /// A batch, three words a transition: index, old, new.
-pub fn apply_batch(state: &mut [u64], counts: &mut [u64], batch: &[u64]) -> Result<(), Refusal> {
-    // SAFETY: slices, see above.
-    Refusal::of(unsafe {
-        sys::selvaigo_apply_batch(state.as_mut_ptr(), state.len(), counts.as_mut_ptr(), counts.len(), batch.as_ptr(), batch.len())
-    })
+pub fn apply_batch(state: &mut [u64; sys::STATE], counts: &mut [u64], batch: &[u64]) -> Result<(), Refusal> {
+    // SAFETY: slices and arrays, see above.
+    Refusal::of(unsafe { sys::selvaigo_apply_batch(state, counts.as_mut_ptr(), counts.len(), batch.as_ptr(), batch.len()) })
 }
 
 /// Which of the sets are to be shrunk.
-pub fn shrink_if_needed(state: &mut [u64], counts: &[u64], bytes_saved: u64) -> Result<Shrunk, Refusal> {
+pub fn shrink_if_needed(state: &mut [u64; sys::STATE], counts: &[u64], bytes_saved: u64) -> Result<Shrunk, Refusal> {
     let mut shrunk = [0; 9];
-    // SAFETY: slices and an array, see above.
-    Refusal::of(unsafe {
-        sys::selvaigo_shrink_if_needed(state.as_mut_ptr(), state.len(), counts.as_ptr(), counts.len(), bytes_saved, &mut shrunk)
-    })?;
+    // SAFETY: slices and arrays, see above.
+    Refusal::of(unsafe { sys::selvaigo_shrink_if_needed(state, counts.as_ptr(), counts.len(), bytes_saved, &mut shrunk) })?;
     Ok(Shrunk::of(shrunk))
 }
 
 /// How many bytes the snapshot takes.
-pub fn serialized_len(state: &[u64], counts: &[u64]) -> Result<usize, Refusal> {
+pub fn serialized_len(state: &[u64; sys::STATE], counts: &[u64]) -> Result<usize, Refusal> {
     let mut len = [0];
-    // SAFETY: slices and an array, see above.
-    Refusal::of(unsafe { sys::selvaigo_serialized_len(state.as_ptr(), state.len(), counts.as_ptr(), counts.len(), &mut len) })?;
+    // SAFETY: slices and arrays, see above.
+    Refusal::of(unsafe { sys::selvaigo_serialized_len(state, counts.as_ptr(), counts.len(), &mut len) })?;
     Ok(size(len[0]))
 }
 
 /// The snapshot, into the front of `out`: its length.
-pub fn serialize(state: &[u64], counts: &[u64], out: &mut [u8]) -> Result<usize, Refusal> {
+pub fn serialize(state: &[u64; sys::STATE], counts: &[u64], out: &mut [u8]) -> Result<usize, Refusal> {
     let mut len = [0];
-    // SAFETY: slices and an array, see above.
-    Refusal::of(unsafe {
-        sys::selvaigo_serialize(state.as_ptr(), state.len(), counts.as_ptr(), counts.len(), out.as_mut_ptr(), out.len(), &mut len)
-    })?;
+    // SAFETY: slices and arrays, see above.
+    Refusal::of(unsafe { sys::selvaigo_serialize(state, counts.as_ptr(), counts.len(), out.as_mut_ptr(), out.len(), &mut len) })?;
     Ok(size(len[0]))
 }
 
 /// The counters of a snapshot, into a record and a table of any content.
-pub fn deserialize_trusted(snapshot: &[u8], state: &mut [u64], counts: &mut [u64]) -> Result<(), Refusal> {
-    // SAFETY: slices, see above.
+pub fn deserialize_trusted(snapshot: &[u8], state: &mut [u64; sys::STATE], counts: &mut [u64]) -> Result<(), Refusal> {
+    // SAFETY: slices and arrays, see above.
     Refusal::of(unsafe {
-        sys::selvaigo_deserialize_trusted(
-            snapshot.as_ptr(),
-            snapshot.len(),
-            state.as_mut_ptr(),
-            state.len(),
-            counts.as_mut_ptr(),
-            counts.len(),
-        )
+        sys::selvaigo_deserialize_trusted(snapshot.as_ptr(), snapshot.len(), state, counts.as_mut_ptr(), counts.len())
     })
 }
 
 /// An empty nursery, in a record and tables of any content.
-pub fn nursery_new(nursery: &mut [u64], entries: &mut [u64], waiting: &mut [u64], cells: &mut [u8]) -> Result<(), Refusal> {
-    // SAFETY: slices, see above.
-    Refusal::of(unsafe {
+pub fn nursery_new(nursery: &mut [u64; sys::NURSERY], entries: &mut [u64], waiting: &mut [u64], cells: &mut [u8]) {
+    // SAFETY: an array and slices, see above.
+    taken(unsafe {
         sys::selvaigo_nursery_new(
-            nursery.as_mut_ptr(),
-            nursery.len(),
+            nursery,
             entries.as_mut_ptr(),
             entries.len(),
             waiting.as_mut_ptr(),
@@ -99,17 +85,16 @@ pub fn nursery_new(nursery: &mut [u64], entries: &mut [u64], waiting: &mut [u64]
 
 /// A delta. Items that aren't what the numbers state are [`Refusal::Broken`].
 pub fn apply_commit(
-    nursery: &mut [u64],
+    nursery: &mut [u64; sys::NURSERY],
     entries: &mut [u64],
     waiting: &mut [u64],
     cells: &mut [u8],
     items: &DeltaItems<'_>,
 ) -> Result<(), Refusal> {
-    // SAFETY: slices, see above.
+    // SAFETY: slices and arrays, see above.
     Refusal::of(unsafe {
         sys::selvaigo_apply_commit(
-            nursery.as_mut_ptr(),
-            nursery.len(),
+            nursery,
             entries.as_mut_ptr(),
             entries.len(),
             waiting.as_mut_ptr(),
@@ -127,7 +112,7 @@ pub fn apply_commit(
 
 /// What is due for promotion at a round, into the front of `out`: its length. [`crate::PromotedCell::all`] reads it.
 pub fn drain_promotable(
-    nursery: &mut [u64],
+    nursery: &mut [u64; sys::NURSERY],
     entries: &[u64],
     waiting: &mut [u64],
     cells: &[u8],
@@ -135,11 +120,10 @@ pub fn drain_promotable(
     out: &mut [u8],
 ) -> Result<usize, Refusal> {
     let mut len = [0];
-    // SAFETY: slices and an array, see above.
+    // SAFETY: slices and arrays, see above.
     Refusal::of(unsafe {
         sys::selvaigo_drain_promotable(
-            nursery.as_mut_ptr(),
-            nursery.len(),
+            nursery,
             entries.as_ptr(),
             entries.len(),
             waiting.as_mut_ptr(),
@@ -156,42 +140,35 @@ pub fn drain_promotable(
 }
 
 /// The index of a hash.
-pub fn get_idx(nursery: &[u64], entries: &[u64], hash: &HashBytes) -> Result<Option<Idx>, Refusal> {
+pub fn get_idx(nursery: &[u64; sys::NURSERY], entries: &[u64], hash: &HashBytes) -> Result<Option<Idx>, Refusal> {
     let mut found = [0; 2];
     // SAFETY: slices and arrays, see above.
-    Refusal::of(unsafe {
-        sys::selvaigo_get_idx(nursery.as_ptr(), nursery.len(), entries.as_ptr(), entries.len(), &hash.0, &mut found)
-    })?;
+    Refusal::of(unsafe { sys::selvaigo_get_idx(nursery, entries.as_ptr(), entries.len(), &hash.0, &mut found) })?;
     Ok((found[0] != 0).then_some(Idx::new(found[1])))
 }
 
 /// Where the cell of a hash lies in the cells.
-pub fn get_data(nursery: &[u64], entries: &[u64], cells: &[u8], hash: &HashBytes) -> Result<Option<Range<usize>>, Refusal> {
+pub fn get_data(
+    nursery: &[u64; sys::NURSERY],
+    entries: &[u64],
+    cells: &[u8],
+    hash: &HashBytes,
+) -> Result<Option<Range<usize>>, Refusal> {
     let mut found = [0; 3];
     // SAFETY: slices and arrays, see above.
     Refusal::of(unsafe {
-        sys::selvaigo_get_data(
-            nursery.as_ptr(),
-            nursery.len(),
-            entries.as_ptr(),
-            entries.len(),
-            cells.as_ptr(),
-            cells.len(),
-            &hash.0,
-            &mut found,
-        )
+        sys::selvaigo_get_data(nursery, entries.as_ptr(), entries.len(), cells.as_ptr(), cells.len(), &hash.0, &mut found)
     })?;
     Ok((found[0] != 0).then(|| size(found[1])..size(found[1] + found[2])))
 }
 
 /// The listing, into the front of `out`: its length. [`DeltaItems::to_delta`] reads it, as inserts that aren't wide.
-pub fn snapshot_entries(nursery: &[u64], entries: &[u64], cells: &[u8], out: &mut [u8]) -> Result<usize, Refusal> {
+pub fn snapshot_entries(nursery: &[u64; sys::NURSERY], entries: &[u64], cells: &[u8], out: &mut [u8]) -> Result<usize, Refusal> {
     let mut len = [0];
-    // SAFETY: slices and an array, see above.
+    // SAFETY: slices and arrays, see above.
     Refusal::of(unsafe {
         sys::selvaigo_snapshot_entries(
-            nursery.as_ptr(),
-            nursery.len(),
+            nursery,
             entries.as_ptr(),
             entries.len(),
             cells.as_ptr(),
@@ -204,23 +181,21 @@ pub fn snapshot_entries(nursery: &[u64], entries: &[u64], cells: &[u8], out: &mu
     Ok(size(len[0]))
 }
 
-/// A journal, read into an empty nursery in a record and tables of any content. A record of a wrong length ends it with [`Refusal::Broken`] before
-/// anything is written.
+/// A journal, read into an empty nursery in a record and tables of any content. [`Refusal::Broken`] never ends it.
 pub fn read_journal(
     journal: &[u8],
-    nursery: &mut [u64],
+    nursery: &mut [u64; sys::NURSERY],
     entries: &mut [u64],
     waiting: &mut [u64],
     cells: &mut [u8],
 ) -> JournalEnd {
     let mut read = [0; 2];
-    // SAFETY: slices and an array, see above.
+    // SAFETY: slices and arrays, see above.
     let answer = unsafe {
         sys::selvaigo_read_journal(
             journal.as_ptr(),
             journal.len(),
-            nursery.as_mut_ptr(),
-            nursery.len(),
+            nursery,
             entries.as_mut_ptr(),
             entries.len(),
             waiting.as_mut_ptr(),

@@ -4,8 +4,7 @@
 //!
 //! Of every call: a pointer and the length behind it are those of a slice, and not null for an empty one; a pointer to an array is
 //! valid for that array; what is written overlaps nothing else that the call is given. The calls named `.._held` ask besides that
-//! the record has its length and that record and tables hold a state of docs/LAYOUT.md, which they do where nothing but these calls has
-//! written them.
+//! record and tables hold a state of docs/LAYOUT.md, which they do where nothing but these calls has written them.
 
 /// Words in the state record of the counters.
 pub const STATE: usize = 13;
@@ -15,22 +14,14 @@ pub const NURSERY: usize = 3;
 
 unsafe extern "C" {
     /// Counters with nothing stored.
-    pub fn selvaigo_new(next_idx: u64, state: *mut u64, state_len: usize, counts: *mut u64, counts_len: usize) -> u8;
+    pub fn selvaigo_new(next_idx: u64, state: *mut [u64; STATE], counts: *mut u64, counts_len: usize) -> u8;
     /// The next index, handed out.
-    pub fn selvaigo_alloc_idx(state: *mut u64, state_len: usize, idx: *mut [u64; 1]) -> u8;
+    pub fn selvaigo_alloc_idx(state: *mut [u64; STATE], idx: *mut [u64; 1]) -> u8;
     /// The count at an index.
-    pub fn selvaigo_get(
-        state: *const u64,
-        state_len: usize,
-        counts: *const u64,
-        counts_len: usize,
-        idx: u64,
-        count: *mut [u64; 1],
-    ) -> u8;
+    pub fn selvaigo_get(state: *const [u64; STATE], counts: *const u64, counts_len: usize, idx: u64, count: *mut [u64; 1]) -> u8;
     /// The same, where record and table hold a state.
     pub fn selvaigo_get_held(
-        state: *const u64,
-        state_len: usize,
+        state: *const [u64; STATE],
         counts: *const u64,
         counts_len: usize,
         idx: u64,
@@ -38,8 +29,7 @@ unsafe extern "C" {
     ) -> u8;
     /// A batch, taken whole or refused whole.
     pub fn selvaigo_apply_batch(
-        state: *mut u64,
-        state_len: usize,
+        state: *mut [u64; STATE],
         counts: *mut u64,
         counts_len: usize,
         batch: *const u64,
@@ -47,8 +37,7 @@ unsafe extern "C" {
     ) -> u8;
     /// The same, where record and table hold a state.
     pub fn selvaigo_apply_batch_held(
-        state: *mut u64,
-        state_len: usize,
+        state: *mut [u64; STATE],
         counts: *mut u64,
         counts_len: usize,
         batch: *const u64,
@@ -56,8 +45,7 @@ unsafe extern "C" {
     ) -> u8;
     /// Which of the sets are to be shrunk.
     pub fn selvaigo_shrink_if_needed(
-        state: *mut u64,
-        state_len: usize,
+        state: *mut [u64; STATE],
         counts: *const u64,
         counts_len: usize,
         bytes_saved: u64,
@@ -65,8 +53,7 @@ unsafe extern "C" {
     ) -> u8;
     /// The same, where record and table hold a state.
     pub fn selvaigo_shrink_if_needed_held(
-        state: *mut u64,
-        state_len: usize,
+        state: *mut [u64; STATE],
         counts: *const u64,
         counts_len: usize,
         bytes_saved: u64,
@@ -77,25 +64,17 @@ unsafe extern "C" {
     /// The alive threshold after a shrinking.
     pub fn selvaigo_adjust_shrink_threshold(min_alive_removed_before_shrink: u64, bytes_saved: u64) -> u64;
     /// How many bytes the snapshot takes.
-    pub fn selvaigo_serialized_len(
-        state: *const u64,
-        state_len: usize,
-        counts: *const u64,
-        counts_len: usize,
-        len: *mut [u64; 1],
-    ) -> u8;
+    pub fn selvaigo_serialized_len(state: *const [u64; STATE], counts: *const u64, counts_len: usize, len: *mut [u64; 1]) -> u8;
     /// The same, where record and table hold a state.
     pub fn selvaigo_serialized_len_held(
-        state: *const u64,
-        state_len: usize,
+        state: *const [u64; STATE],
         counts: *const u64,
         counts_len: usize,
         len: *mut [u64; 1],
     ) -> u8;
     /// The snapshot.
     pub fn selvaigo_serialize(
-        state: *const u64,
-        state_len: usize,
+        state: *const [u64; STATE],
         counts: *const u64,
         counts_len: usize,
         out: *mut u8,
@@ -104,8 +83,7 @@ unsafe extern "C" {
     ) -> u8;
     /// The same, where record and table hold a state.
     pub fn selvaigo_serialize_held(
-        state: *const u64,
-        state_len: usize,
+        state: *const [u64; STATE],
         counts: *const u64,
         counts_len: usize,
         out: *mut u8,
@@ -116,15 +94,13 @@ unsafe extern "C" {
     pub fn selvaigo_deserialize_trusted(
         snapshot: *const u8,
         snapshot_len: usize,
-        state: *mut u64,
-        state_len: usize,
+        state: *mut [u64; STATE],
         counts: *mut u64,
         counts_len: usize,
     ) -> u8;
     /// An empty nursery.
     pub fn selvaigo_nursery_new(
-        nursery: *mut u64,
-        nursery_len: usize,
+        nursery: *mut [u64; NURSERY],
         entries: *mut u64,
         entries_len: usize,
         waiting: *mut u64,
@@ -134,8 +110,7 @@ unsafe extern "C" {
     ) -> u8;
     /// A delta, taken whole or refused whole.
     pub fn selvaigo_apply_commit(
-        nursery: *mut u64,
-        nursery_len: usize,
+        nursery: *mut [u64; NURSERY],
         entries: *mut u64,
         entries_len: usize,
         waiting: *mut u64,
@@ -150,8 +125,7 @@ unsafe extern "C" {
     ) -> u8;
     /// The same, where record and tables hold a state.
     pub fn selvaigo_apply_commit_held(
-        nursery: *mut u64,
-        nursery_len: usize,
+        nursery: *mut [u64; NURSERY],
         entries: *mut u64,
         entries_len: usize,
         waiting: *mut u64,
@@ -166,8 +140,7 @@ unsafe extern "C" {
     ) -> u8;
     /// What is due for promotion at a round.
     pub fn selvaigo_drain_promotable(
-        nursery: *mut u64,
-        nursery_len: usize,
+        nursery: *mut [u64; NURSERY],
         entries: *const u64,
         entries_len: usize,
         waiting: *mut u64,
@@ -181,8 +154,7 @@ unsafe extern "C" {
     ) -> u8;
     /// The same, where record and tables hold a state.
     pub fn selvaigo_drain_promotable_held(
-        nursery: *mut u64,
-        nursery_len: usize,
+        nursery: *mut [u64; NURSERY],
         entries: *const u64,
         entries_len: usize,
         waiting: *mut u64,
@@ -196,8 +168,7 @@ unsafe extern "C" {
     ) -> u8;
     /// The index of a hash.
     pub fn selvaigo_get_idx(
-        nursery: *const u64,
-        nursery_len: usize,
+        nursery: *const [u64; NURSERY],
         entries: *const u64,
         entries_len: usize,
         hash: *const [u8; 32],
@@ -205,8 +176,7 @@ unsafe extern "C" {
     ) -> u8;
     /// The same, where record and table hold a state.
     pub fn selvaigo_get_idx_held(
-        nursery: *const u64,
-        nursery_len: usize,
+        nursery: *const [u64; NURSERY],
         entries: *const u64,
         entries_len: usize,
         hash: *const [u8; 32],
@@ -214,8 +184,7 @@ unsafe extern "C" {
     ) -> u8;
     /// Where the cell of a hash lies.
     pub fn selvaigo_get_data(
-        nursery: *const u64,
-        nursery_len: usize,
+        nursery: *const [u64; NURSERY],
         entries: *const u64,
         entries_len: usize,
         cells: *const u8,
@@ -225,8 +194,7 @@ unsafe extern "C" {
     ) -> u8;
     /// The same, where record and tables hold a state.
     pub fn selvaigo_get_data_held(
-        nursery: *const u64,
-        nursery_len: usize,
+        nursery: *const [u64; NURSERY],
         entries: *const u64,
         entries_len: usize,
         cells: *const u8,
@@ -236,8 +204,7 @@ unsafe extern "C" {
     ) -> u8;
     /// The listing.
     pub fn selvaigo_snapshot_entries(
-        nursery: *const u64,
-        nursery_len: usize,
+        nursery: *const [u64; NURSERY],
         entries: *const u64,
         entries_len: usize,
         cells: *const u8,
@@ -248,8 +215,7 @@ unsafe extern "C" {
     ) -> u8;
     /// The same, where record and tables hold a state.
     pub fn selvaigo_snapshot_entries_held(
-        nursery: *const u64,
-        nursery_len: usize,
+        nursery: *const [u64; NURSERY],
         entries: *const u64,
         entries_len: usize,
         cells: *const u8,
@@ -278,8 +244,7 @@ unsafe extern "C" {
     pub fn selvaigo_read_journal(
         journal: *const u8,
         journal_len: usize,
-        nursery: *mut u64,
-        nursery_len: usize,
+        nursery: *mut [u64; NURSERY],
         entries: *mut u64,
         entries_len: usize,
         waiting: *mut u64,

@@ -30,7 +30,7 @@ fn number(rust: &str) -> &'static str {
     }
 }
 
-// A parameter in C: an array's length stands in its brackets.
+// A parameter in C: an array's length stands in its brackets, that of a record by its name.
 fn param(name: &str, rust: &str) -> String {
     let (front, to) = match (rust.strip_prefix("*const "), rust.strip_prefix("*mut ")) {
         (Some(to), _) => ("const ", to),
@@ -40,7 +40,8 @@ fn param(name: &str, rust: &str) -> String {
     match to.strip_prefix('[').and_then(|array| array.strip_suffix(']')) {
         Some(array) => {
             let (element, len) = array.split_once("; ").unwrap();
-            format!("{front}{} {name}[{len}]", number(element))
+            let prefix = if len.starts_with(char::is_numeric) { "" } else { "SELVAIGO_" };
+            format!("{front}{} {name}[{prefix}{len}]", number(element))
         }
         None => format!("{front}{} *{name}", number(to)),
     }

@@ -3,7 +3,7 @@ use std::borrow::Cow;
 
 use selvaigo::{
     CellNursery, CounterTransition, Counters, DeltaItems, HashBytes, Idx, NextIdx, NurseryDelta, NurseryEntryRecord,
-    NurseryParts, Refusal, decode_record, encode_items, encode_record, hash, raw, sys,
+    NurseryParts, RefCount, Refusal, decode_record, encode_items, encode_record, hash, raw, sys,
 };
 
 fn change(idx: u64, old_raw: u64, new_raw: u64) -> CounterTransition {
@@ -168,37 +168,30 @@ fn what_is_no_batch_and_no_delta() {
 }
 
 #[test]
-fn records_of_another_length_are_broken() {
-    for len in [0, 2, 12, 14] {
-        let (mut s, mut t, mut n, mut c) = (vec![0; len], [0; 8], vec![0; len], [0; 8]);
-        let broken = Some(Refusal::Broken);
-        assert_eq!(raw::new(NextIdx::new(0), &mut s, &mut t).err(), broken);
-        assert_eq!(raw::alloc_idx(&mut s).err(), broken);
-        assert_eq!(raw::get(&s, &t, Idx::new(0)).err(), broken);
-        assert_eq!(raw::apply_batch(&mut s, &mut t, &[]).err(), broken);
-        assert_eq!(raw::shrink_if_needed(&mut s, &t, 0).err(), broken);
-        assert_eq!(raw::serialized_len(&s, &t).err(), broken);
-        assert_eq!(raw::serialize(&s, &t, &mut [0; 200]).err(), broken);
-        assert_eq!(raw::deserialize_trusted(&counters(1).serialize(), &mut s, &mut t).err(), broken);
-        let (mut e, mut w) = ([0; 8], [0; 5]);
-        let hash = HashBytes([0; 32]);
-        assert_eq!(raw::nursery_new(&mut n, &mut e, &mut w, &mut c).err(), broken);
-        assert_eq!(raw::apply_commit(&mut n, &mut e, &mut w, &mut c, &DeltaItems::borrowed(0, 0, &[])).err(), broken);
-        assert_eq!(raw::drain_promotable(&mut n, &e, &mut w, &c, 100, &mut []).err(), broken);
-        assert_eq!(raw::get_idx(&n, &e, &hash).err(), broken);
-        assert_eq!(raw::get_data(&n, &e, &c, &hash).err(), broken);
-        assert_eq!(raw::snapshot_entries(&n, &e, &c, &mut []).err(), broken);
-        assert_eq!(raw::read_journal(&[], &mut n, &mut e, &mut w, &mut c).refusal, broken);
-        assert!(s == vec![0; len] && n == vec![0; len]);
-    }
+fn made_and_read_in_over_anything() {
+    let (mut state, mut counts) = ([7; sys::STATE], vec![7; 5]);
+    raw::new(NextIdx::new(3), &mut state, &mut counts);
+    assert_eq!(Counters::from_parts(state, counts.into()).unwrap().next_idx(), NextIdx::new(3));
+    let (mut state, mut counts) = ([7; sys::STATE], vec![7; 5]);
+    assert_eq!(raw::deserialize_trusted(&counters(1).serialize(), &mut state, &mut counts), Ok(()));
+    assert_eq!(Counters::from_parts(state, counts.into()).unwrap().get(Idx::new(0)), Ok(RefCount::new(2)));
+    let other = NurseryParts { nursery: [7; sys::NURSERY], entries: [7; 9].into(), waiting: [7; 6].into(), cells: [7; 3].into() };
+    let mut p = other.clone();
+    raw::nursery_new(&mut p.nursery, &mut p.entries, &mut p.waiting, &mut p.cells);
+    assert!(CellNursery::from_parts(p).unwrap().is_empty());
+    let mut p = other;
+    let journal = [encode_record(0, &insert(1, vec![1])).unwrap().bytes(), &[0; 39]].concat();
+    let end = raw::read_journal(&journal, &mut p.nursery, &mut p.entries, &mut p.waiting, &mut p.cells);
+    assert_eq!((end.applied, end.refusal.map(Refusal::number)), (1, Some(16)));
+    assert_eq!(CellNursery::from_parts(p).unwrap().len(), 1);
 }
 
 #[test]
 fn values_beside_a_refusal_are_zeros() {
     let (state, counts) = counters(1).into_parts();
     let mut count = [9];
-    // SAFETY: slices and an array.
-    let answer = unsafe { sys::selvaigo_get(state.as_ptr(), state.len(), counts.as_ptr(), counts.len(), 2, &mut count) };
+    // SAFETY: a slice and arrays.
+    let answer = unsafe { sys::selvaigo_get(&state, counts.as_ptr(), counts.len(), 2, &mut count) };
     assert_eq!((answer, count), (2, [0]));
     let (mut figures, mut hash) = ([9; 8], [9; 32]);
     // SAFETY: a slice and arrays.

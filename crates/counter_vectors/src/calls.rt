@@ -83,13 +83,13 @@ fn change(kind: u8, state: &mut [u64; 13], counts: &mut [u64; 8201], call: &[u8]
     }
 }
 
-fn get(state: &[u64], counts: &[u64], idx: u64, out: &mut [u8]) -> usize {
+fn get(state: &[u64; 13], counts: &[u64], idx: u64, out: &mut [u8]) -> usize {
     let mut count = [7u64; 1];
     let number = selvaigo_get(state, counts, idx, &mut count);
     put_one(out, number, &count)
 }
 
-fn serialize(state: &[u64], counts: &[u64], out: &mut [u8]) -> usize {
+fn serialize(state: &[u64; 13], counts: &[u64], out: &mut [u8]) -> usize {
     if out.len() < 9 {
         return NONE;
     }
@@ -99,7 +99,7 @@ fn serialize(state: &[u64], counts: &[u64], out: &mut [u8]) -> usize {
     out.len()
 }
 
-fn serialized_len(state: &[u64], counts: &[u64], out: &mut [u8]) -> usize {
+fn serialized_len(state: &[u64; 13], counts: &[u64], out: &mut [u8]) -> usize {
     let mut len = [7u64; 1];
     let number = selvaigo_serialized_len(state, counts, &mut len);
     put_one(out, number, &len)
@@ -120,14 +120,14 @@ fn told(t: &[u64]) -> usize
 }
 
 // The record and the table, as `set` takes them.
-fn look(state: &[u64], counts: &[u64], out: &mut [u8]) -> usize {
+fn look(state: &[u64; 13], counts: &[u64], out: &mut [u8]) -> usize {
     let n = told(counts);
     let at = put(out, 0, state);
     put_words(out, at, &counts[0..n])
 }
 
 // Calls that change nothing.
-fn read(kind: u8, state: &[u64], counts: &[u64], call: &[u8], out: &mut [u8]) -> usize {
+fn read(kind: u8, state: &[u64; 13], counts: &[u64], call: &[u8], out: &mut [u8]) -> usize {
     match kind {
         7 => get(state, counts, word(call, 0), out),
         8 => serialize(state, counts, out),

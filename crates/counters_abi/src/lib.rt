@@ -1,59 +1,51 @@
 // The counters' calls as C functions: a new state, an index handed out, a count. include/selvaigo.h declares them. A slice passes as a
-// pointer and a length, an array as a pointer. A state record is lent as its words of docs/LAYOUT.md; a slice of another length is 20.
+// pointer and a length, an array as a pointer. A state record is lent as its words of docs/LAYOUT.md.
 use counters::Idx;
 use counters::NextIdx;
 use state_steps::put_got;
-use state_words::broken;
 use state_words::counters_of;
-use state_words::put_counters;
+use state_words::counters_words;
 ghost use mathlib.Core.Path.{_≡_};
 ghost use mathlib.Core.Bool.{true};
 ghost use mathlib.Core.List.{[], _∷_};
-ghost use lib.ListN.{length};
 ghost use Rattle.counters.specs.Layout as layout;
 ghost use Rattle.state_words.specs.Words.{countersOf, said};
 ghost use Rattle.word_calls.specs.CountersSaid.{newSaid, allocSaid, getSaid};
 
 // Counters with nothing stored, whose next index is handed over.
 #[no_mangle]
-pub extern "C" fn selvaigo_new(next_idx: u64, state: &mut [u64], counts: &mut [u64]) -> u8
-    ensures { λ r. ⌜ said r [] (now (state .exit) ∷ now (counts .exit) ∷ []) ≡ newSaid «next_idx» (now (state .entry)) (now (counts .entry)) ⌝ }
+pub extern "C" fn selvaigo_new(next_idx: u64, state: &mut [u64; 13], counts: &mut [u64]) -> u8
+    ensures { λ r. ⌜ said r [] (now (state .exit) ∷ now (counts .exit) ∷ []) ≡ newSaid «next_idx» (now (counts .entry)) ⌝ }
 {
-    if state.len() != 13 {
-        return broken();
-    }
     let c = counter_table::new(NextIdx(next_idx), counts);
-    put_counters(state, c);
+    *state = counters_words(c);
     0
 }
 
 // The next index, handed out.
 #[no_mangle]
-pub extern "C" fn selvaigo_alloc_idx(state: &mut [u64], idx: &mut [u64; 1]) -> u8
+pub extern "C" fn selvaigo_alloc_idx(state: &mut [u64; 13], idx: &mut [u64; 1]) -> u8
     ensures { λ r. ⌜ said r (now (idx .exit) ∷ []) (now (state .exit) ∷ []) ≡ allocSaid (now (state .entry)) ⌝ }
 {
-    if state.len() != 13 {
-        *idx = [0];
-        return broken();
-    }
     let c = counters_of(state);
     let x = counter_table::alloc_idx(c);
     *idx = [x.idx.0];
     let after = x.counters;
-    put_counters(state, after);
+    *state = counters_words(after);
     let a = x.answer;
     a.number()
 }
 
 // The count at an index.
 #[no_mangle]
-pub extern "C" fn selvaigo_get(state: &[u64], counts: &[u64], idx: u64, count: &mut [u64; 1]) -> u8
+pub extern "C" fn selvaigo_get(
+    state: &[u64; 13],
+    counts: &[u64],
+    idx: u64,
+    count: &mut [u64; 1],
+) -> u8
     ensures { λ r. ⌜ said r (now (count .exit) ∷ []) [] ≡ getSaid (now (state .entry)) (now (counts .entry)) idx ⌝ }
 {
-    if state.len() != 13 {
-        *count = [0];
-        return broken();
-    }
     let c = counters_of(state);
     let x = counter_lookup::get(c, counts, Idx(idx));
     put_got(x, count)
@@ -62,12 +54,12 @@ pub extern "C" fn selvaigo_get(state: &[u64], counts: &[u64], idx: u64, count: &
 // The same, where the record and the table hold a state.
 #[no_mangle]
 pub extern "C" fn selvaigo_get_held(
-    state: &[u64],
+    state: &[u64; 13],
     counts: &[u64],
     idx: u64,
     count: &mut [u64; 1],
 ) -> u8
-    requires { ⌜ (length (now state) ≡ 13) × (layout.holds (countersOf (now state)) (now counts) ≡ true) ⌝ }
+    requires { ⌜ layout.holds (countersOf (now state)) (now counts) ≡ true ⌝ }
     ensures { λ r. ⌜ said r (now (count .exit) ∷ []) [] ≡ getSaid (now (state .entry)) (now (counts .entry)) idx ⌝ }
 {
     let c = counters_of(state);

@@ -1,11 +1,9 @@
 // Draining as C functions, lent as in nursery_abi; include/selvaigo.h declares them.
 use state_steps::put_drained;
-use state_words::broken;
 use state_words::nursery_of;
 ghost use mathlib.Core.Path.{_≡_};
 ghost use mathlib.Core.Bool.{true};
 ghost use mathlib.Core.List.{[], _∷_};
-ghost use lib.ListN.{length};
 ghost use Rattle.cell_nursery.specs.Layout.{holds};
 ghost use Rattle.state_words.specs.Words.{nurseryOf, said};
 ghost use Rattle.word_calls.specs.NurserySaid.{drainSaid};
@@ -13,7 +11,7 @@ ghost use Rattle.word_calls.specs.NurserySaid.{drainSaid};
 // What is due for promotion at a round, written into the output.
 #[no_mangle]
 pub extern "C" fn selvaigo_drain_promotable(
-    nursery: &mut [u64],
+    nursery: &mut [u64; 3],
     entries: &[u64],
     waiting: &mut [u64],
     cells: &[u8],
@@ -23,10 +21,6 @@ pub extern "C" fn selvaigo_drain_promotable(
 ) -> u8
     ensures { λ r. ⌜ said r (now (len .exit) ∷ []) (now (nursery .exit) ∷ now (waiting .exit) ∷ now (out .exit) ∷ []) ≡ drainSaid (now (nursery .entry)) (now (entries .entry)) (now (waiting .entry)) (now (cells .entry)) round (now (out .entry)) ⌝ }
 {
-    if nursery.len() != 3 {
-        *len = [0];
-        return broken();
-    }
     let r = nursery_of(nursery);
     let x = nursery_drain::drain_promotable(r, entries, waiting, cells, round, out);
     put_drained(x, nursery, len)
@@ -35,7 +29,7 @@ pub extern "C" fn selvaigo_drain_promotable(
 // The same, where the record and the tables hold a state.
 #[no_mangle]
 pub extern "C" fn selvaigo_drain_promotable_held(
-    nursery: &mut [u64],
+    nursery: &mut [u64; 3],
     entries: &[u64],
     waiting: &mut [u64],
     cells: &[u8],
@@ -43,7 +37,7 @@ pub extern "C" fn selvaigo_drain_promotable_held(
     out: &mut [u8],
     len: &mut [u64; 1],
 ) -> u8
-    requires { ⌜ (length (now nursery) ≡ 3) × (holds (nurseryOf (now nursery)) (now entries) (now waiting) (now cells) ≡ true) ⌝ }
+    requires { ⌜ holds (nurseryOf (now nursery)) (now entries) (now waiting) (now cells) ≡ true ⌝ }
     ensures { λ r. ⌜ said r (now (len .exit) ∷ []) (now (nursery .exit) ∷ now (waiting .exit) ∷ now (out .exit) ∷ []) ≡ drainSaid (now (nursery .entry)) (now (entries .entry)) (now (waiting .entry)) (now (cells .entry)) round (now (out .entry)) ⌝ }
 {
     let r = nursery_of(nursery);

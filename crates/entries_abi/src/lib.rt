@@ -1,12 +1,10 @@
 // The nursery's calls that read it as C functions, lent as in nursery_abi; include/selvaigo.h declares them.
 use state_steps::put_data;
 use state_steps::put_found;
-use state_words::broken;
 use state_words::nursery_of;
 ghost use mathlib.Core.Path.{_≡_};
 ghost use mathlib.Core.Bool.{true};
 ghost use mathlib.Core.List.{[], _∷_};
-ghost use lib.ListN.{length};
 ghost use Rattle.cell_nursery.specs.Layout.{holdsEntries, holdsCells};
 ghost use Rattle.state_words.specs.Words.{nurseryOf, said};
 ghost use Rattle.word_calls.specs.NurserySaid.{idxSaid, dataSaid};
@@ -14,17 +12,13 @@ ghost use Rattle.word_calls.specs.NurserySaid.{idxSaid, dataSaid};
 // The index of a hash.
 #[no_mangle]
 pub extern "C" fn selvaigo_get_idx(
-    nursery: &[u64],
+    nursery: &[u64; 3],
     entries: &[u64],
     hash: &[u8; 32],
     found: &mut [u64; 2],
 ) -> u8
     ensures { λ r. ⌜ said r (now (found .exit) ∷ []) [] ≡ idxSaid (now (nursery .entry)) (now (entries .entry)) (now (hash .entry)) ⌝ }
 {
-    if nursery.len() != 3 {
-        *found = [0; 2];
-        return broken();
-    }
     let x = nursery_lookup::get_idx(nursery_of(nursery), entries, *hash);
     put_found(x, found)
 }
@@ -32,12 +26,12 @@ pub extern "C" fn selvaigo_get_idx(
 // The same, where the record and the entries hold a state.
 #[no_mangle]
 pub extern "C" fn selvaigo_get_idx_held(
-    nursery: &[u64],
+    nursery: &[u64; 3],
     entries: &[u64],
     hash: &[u8; 32],
     found: &mut [u64; 2],
 ) -> u8
-    requires { ⌜ (length (now nursery) ≡ 3) × (holdsEntries (nurseryOf (now nursery)) (now entries) ≡ true) ⌝ }
+    requires { ⌜ holdsEntries (nurseryOf (now nursery)) (now entries) ≡ true ⌝ }
     ensures { λ r. ⌜ said r (now (found .exit) ∷ []) [] ≡ idxSaid (now (nursery .entry)) (now (entries .entry)) (now (hash .entry)) ⌝ }
 {
     let x = nursery_lookup::get_idx_held(nursery_of(nursery), entries, *hash);
@@ -47,7 +41,7 @@ pub extern "C" fn selvaigo_get_idx_held(
 // Where the cell of a hash lies.
 #[no_mangle]
 pub extern "C" fn selvaigo_get_data(
-    nursery: &[u64],
+    nursery: &[u64; 3],
     entries: &[u64],
     cells: &[u8],
     hash: &[u8; 32],
@@ -55,10 +49,6 @@ pub extern "C" fn selvaigo_get_data(
 ) -> u8
     ensures { λ r. ⌜ said r (now (found .exit) ∷ []) [] ≡ dataSaid (now (nursery .entry)) (now (entries .entry)) (now (cells .entry)) (now (hash .entry)) ⌝ }
 {
-    if nursery.len() != 3 {
-        *found = [0; 3];
-        return broken();
-    }
     let x = nursery_lookup::get_data(nursery_of(nursery), entries, cells, *hash);
     put_data(x, found)
 }
@@ -66,13 +56,13 @@ pub extern "C" fn selvaigo_get_data(
 // The same, where the record, the entries and the cells hold a state.
 #[no_mangle]
 pub extern "C" fn selvaigo_get_data_held(
-    nursery: &[u64],
+    nursery: &[u64; 3],
     entries: &[u64],
     cells: &[u8],
     hash: &[u8; 32],
     found: &mut [u64; 3],
 ) -> u8
-    requires { ⌜ (length (now nursery) ≡ 3) × (holdsEntries (nurseryOf (now nursery)) (now entries) ≡ true) × (holdsCells (nurseryOf (now nursery)) (now cells) ≡ true) ⌝ }
+    requires { ⌜ (holdsEntries (nurseryOf (now nursery)) (now entries) ≡ true) × (holdsCells (nurseryOf (now nursery)) (now cells) ≡ true) ⌝ }
     ensures { λ r. ⌜ said r (now (found .exit) ∷ []) [] ≡ dataSaid (now (nursery .entry)) (now (entries .entry)) (now (cells .entry)) (now (hash .entry)) ⌝ }
 {
     let x = nursery_lookup::get_data_held(nursery_of(nursery), entries, cells, *hash);

@@ -1,15 +1,13 @@
 // The nursery's calls that change it as C functions; include/selvaigo.h declares them. A slice passes as a pointer and a length, an array as a
-// pointer. A state record is lent as its words of docs/LAYOUT.md; a slice of another length is 20. A form named .._held requires of the record
-// and the tables what the form beside it tests.
+// pointer. A state record is lent as its words of docs/LAYOUT.md. A form named .._held requires of the record and the tables what the form
+// beside it tests.
 use nursery_commit::apply_commit;
 use nursery_commit::apply_commit_held;
 use state_steps::put_committed;
-use state_words::broken;
 use state_words::nursery_of;
 ghost use mathlib.Core.Path.{_≡_};
 ghost use mathlib.Core.Bool.{true};
 ghost use mathlib.Core.List.{[], _∷_};
-ghost use lib.ListN.{length};
 ghost use Rattle.cell_nursery.specs.Layout.{holds};
 ghost use Rattle.state_words.specs.Words.{nurseryOf, said};
 ghost use Rattle.word_calls.specs.NurserySaid.{emptySaid, commitSaid};
@@ -17,16 +15,13 @@ ghost use Rattle.word_calls.specs.NurserySaid.{emptySaid, commitSaid};
 // An empty nursery.
 #[no_mangle]
 pub extern "C" fn selvaigo_nursery_new(
-    nursery: &mut [u64],
+    nursery: &mut [u64; 3],
     entries: &mut [u64],
     waiting: &mut [u64],
     cells: &mut [u8],
 ) -> u8
-    ensures { λ r. ⌜ said r [] (now (nursery .exit) ∷ now (entries .exit) ∷ now (waiting .exit) ∷ now (cells .exit) ∷ []) ≡ emptySaid (now (nursery .entry)) (now (entries .entry)) (now (waiting .entry)) (now (cells .entry)) ⌝ }
+    ensures { λ r. ⌜ said r [] (now (nursery .exit) ∷ now (entries .exit) ∷ now (waiting .exit) ∷ now (cells .exit) ∷ []) ≡ emptySaid (now (entries .entry)) (now (waiting .entry)) (now (cells .entry)) ⌝ }
 {
-    if nursery.len() != 3 {
-        return broken();
-    }
     let x = nursery_table::new(entries, waiting, cells);
     put_committed(x, nursery)
 }
@@ -34,7 +29,7 @@ pub extern "C" fn selvaigo_nursery_new(
 // A delta.
 #[no_mangle]
 pub extern "C" fn selvaigo_apply_commit(
-    nursery: &mut [u64],
+    nursery: &mut [u64; 3],
     entries: &mut [u64],
     waiting: &mut [u64],
     cells: &mut [u8],
@@ -45,9 +40,6 @@ pub extern "C" fn selvaigo_apply_commit(
 ) -> u8
     ensures { λ r. ⌜ said r [] (now (nursery .exit) ∷ now (entries .exit) ∷ now (waiting .exit) ∷ now (cells .exit) ∷ []) ≡ commitSaid (now (nursery .entry)) (now (entries .entry)) (now (waiting .entry)) (now (cells .entry)) wide inserts removes (now (items .entry)) ⌝ }
 {
-    if nursery.len() != 3 {
-        return broken();
-    }
     let r = nursery_of(nursery);
     let w = wide != 0;
     let x = apply_commit(r, entries, waiting, cells, w, inserts, removes, items);
@@ -57,7 +49,7 @@ pub extern "C" fn selvaigo_apply_commit(
 // The same, where the record and the tables hold a state.
 #[no_mangle]
 pub extern "C" fn selvaigo_apply_commit_held(
-    nursery: &mut [u64],
+    nursery: &mut [u64; 3],
     entries: &mut [u64],
     waiting: &mut [u64],
     cells: &mut [u8],
@@ -66,7 +58,7 @@ pub extern "C" fn selvaigo_apply_commit_held(
     removes: u64,
     items: &[u8],
 ) -> u8
-    requires { ⌜ (length (now nursery) ≡ 3) × (holds (nurseryOf (now nursery)) (now entries) (now waiting) (now cells) ≡ true) ⌝ }
+    requires { ⌜ holds (nurseryOf (now nursery)) (now entries) (now waiting) (now cells) ≡ true ⌝ }
     ensures { λ r. ⌜ said r [] (now (nursery .exit) ∷ now (entries .exit) ∷ now (waiting .exit) ∷ now (cells .exit) ∷ []) ≡ commitSaid (now (nursery .entry)) (now (entries .entry)) (now (waiting .entry)) (now (cells .entry)) wide inserts removes (now (items .entry)) ⌝ }
 {
     let r = nursery_of(nursery);

@@ -84,7 +84,7 @@ fn key(call: &[u8]) -> [u8; 32] {
     hash
 }
 
-fn get_idx(nursery: &[u64], entries: &[u64], call: &[u8], out: &mut [u8]) -> usize {
+fn get_idx(nursery: &[u64; 3], entries: &[u64], call: &[u8], out: &mut [u8]) -> usize {
     let hash = key(call);
     let mut found = [7u64; 2];
     let number = selvaigo_get_idx(nursery, entries, &hash, &mut found);
@@ -103,7 +103,13 @@ fn put_cell(out: &mut [u8], cells: &[u8], place: u64, len: u64) -> usize {
     put_bytes(out, 9, &cells[at..at + len as usize])
 }
 
-fn get_data(nursery: &[u64], entries: &[u64], cells: &[u8], call: &[u8], out: &mut [u8]) -> usize {
+fn get_data(
+    nursery: &[u64; 3],
+    entries: &[u64],
+    cells: &[u8],
+    call: &[u8],
+    out: &mut [u8],
+) -> usize {
     let hash = key(call);
     let mut found = [7u64; 3];
     let number = selvaigo_get_data(nursery, entries, cells, &hash, &mut found);
@@ -111,7 +117,7 @@ fn get_data(nursery: &[u64], entries: &[u64], cells: &[u8], call: &[u8], out: &m
     put_cell(out, cells, found[1], found[2])
 }
 
-fn listing(nursery: &[u64], entries: &[u64], cells: &[u8], out: &mut [u8]) -> usize {
+fn listing(nursery: &[u64; 3], entries: &[u64], cells: &[u8], out: &mut [u8]) -> usize {
     if out.len() < 9 {
         return NONE;
     }
@@ -122,10 +128,7 @@ fn listing(nursery: &[u64], entries: &[u64], cells: &[u8], out: &mut [u8]) -> us
 }
 
 // How many entries there are, and how many bytes their cells have.
-fn totals(nursery: &[u64], out: &mut [u8]) -> usize {
-    if nursery.len() != 3 {
-        return NONE;
-    }
+fn totals(nursery: &[u64; 3], out: &mut [u8]) -> usize {
     put(out, 0, &[nursery[0], nursery[2]])
 }
 
@@ -158,7 +161,7 @@ fn set(
 // Calls that change nothing.
 fn read(
     kind: u8,
-    nursery: &[u64],
+    nursery: &[u64; 3],
     entries: &[u64],
     cells: &[u8],
     call: &[u8],

@@ -1,8 +1,7 @@
 // What a box is read in from, a snapshot and a journal, as C functions, lent as in counters_abi and nursery_abi; include/selvaigo.h declares them.
 use base::Answer;
-use state_words::broken;
-use state_words::put_counters;
-use state_words::put_nursery;
+use state_words::counters_words;
+use state_words::nursery_words;
 ghost use mathlib.Core.Path.{_≡_};
 ghost use mathlib.Core.List.{[], _∷_};
 ghost use Rattle.state_words.specs.Words.{said};
@@ -13,20 +12,17 @@ ghost use Rattle.word_calls.specs.RecordSaid.{journalSaid};
 #[no_mangle]
 pub extern "C" fn selvaigo_deserialize_trusted(
     snapshot: &[u8],
-    state: &mut [u64],
+    state: &mut [u64; 13],
     counts: &mut [u64],
 ) -> u8
     ensures { λ r. ⌜ said r [] (now (state .exit) ∷ now (counts .exit) ∷ []) ≡ deserializeSaid (now (snapshot .entry)) (now (state .entry)) (now (counts .entry)) ⌝ }
 {
-    if state.len() != 13 {
-        return broken();
-    }
     let x = snapshot_read::deserialize_trusted(snapshot, counts);
     let a = x.answer;
     match a {
         Answer::Taken => {
             let c = x.counters;
-            put_counters(state, c);
+            *state = counters_words(c);
             0
         }
         Answer::Refused(q) => q.number(),
@@ -37,21 +33,17 @@ pub extern "C" fn selvaigo_deserialize_trusted(
 #[no_mangle]
 pub extern "C" fn selvaigo_read_journal(
     journal: &[u8],
-    nursery: &mut [u64],
+    nursery: &mut [u64; 3],
     entries: &mut [u64],
     waiting: &mut [u64],
     cells: &mut [u8],
     read: &mut [u64; 2],
 ) -> u8
-    ensures { λ r. ⌜ said r (now (read .exit) ∷ []) (now (nursery .exit) ∷ now (entries .exit) ∷ now (waiting .exit) ∷ now (cells .exit) ∷ []) ≡ journalSaid (now (journal .entry)) (now (nursery .entry)) (now (entries .entry)) (now (waiting .entry)) (now (cells .entry)) ⌝ }
+    ensures { λ r. ⌜ said r (now (read .exit) ∷ []) (now (nursery .exit) ∷ now (entries .exit) ∷ now (waiting .exit) ∷ now (cells .exit) ∷ []) ≡ journalSaid (now (journal .entry)) (now (entries .entry)) (now (waiting .entry)) (now (cells .entry)) ⌝ }
 {
-    if nursery.len() != 3 {
-        *read = [0; 2];
-        return broken();
-    }
     let x = journal_read::read_journal(journal, entries, waiting, cells);
     *read = [x.applied as u64, x.place as u64];
-    put_nursery(nursery, x.nursery);
+    *nursery = nursery_words(x.nursery);
     let a = x.ended;
     a.number()
 }

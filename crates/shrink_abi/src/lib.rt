@@ -1,12 +1,10 @@
 // The counters' shrinking as C functions, lent as in counters_abi; include/selvaigo.h declares them.
 use counters::CounterMaintenance;
 use state_steps::put_shrunk;
-use state_words::broken;
 use state_words::counters_of;
 ghost use mathlib.Core.Path.{_≡_};
 ghost use mathlib.Core.Bool.{true};
 ghost use mathlib.Core.List.{[], _∷_};
-ghost use lib.ListN.{length};
 ghost use Rattle.counters.specs.Layout as layout;
 ghost use Rattle.counters.specs.Maintenance.{standard, shouldShrink, adjustShrinkThreshold};
 ghost use Rattle.state_words.specs.Words.{countersOf, said, bit};
@@ -15,17 +13,13 @@ ghost use Rattle.word_calls.specs.CountersSaid.{shrinkSaid};
 // Which sets are to be shrunk.
 #[no_mangle]
 pub extern "C" fn selvaigo_shrink_if_needed(
-    state: &mut [u64],
+    state: &mut [u64; 13],
     counts: &[u64],
     bytes_saved: u64,
     shrunk: &mut [u64; 9],
 ) -> u8
     ensures { λ r. ⌜ said r (now (shrunk .exit) ∷ []) (now (state .exit) ∷ []) ≡ shrinkSaid (now (state .entry)) (now (counts .entry)) «bytes_saved» ⌝ }
 {
-    if state.len() != 13 {
-        *shrunk = [0; 9];
-        return broken();
-    }
     let c = counters_of(state);
     let x = counter_shrink::shrink_if_needed(c, counts, bytes_saved);
     put_shrunk(x, state, shrunk)
@@ -34,12 +28,12 @@ pub extern "C" fn selvaigo_shrink_if_needed(
 // The same, where the record and the table hold a state.
 #[no_mangle]
 pub extern "C" fn selvaigo_shrink_if_needed_held(
-    state: &mut [u64],
+    state: &mut [u64; 13],
     counts: &[u64],
     bytes_saved: u64,
     shrunk: &mut [u64; 9],
 ) -> u8
-    requires { ⌜ (length (now state) ≡ 13) × (layout.holds (countersOf (now state)) (now counts) ≡ true) ⌝ }
+    requires { ⌜ layout.holds (countersOf (now state)) (now counts) ≡ true ⌝ }
     ensures { λ r. ⌜ said r (now (shrunk .exit) ∷ []) (now (state .exit) ∷ []) ≡ shrinkSaid (now (state .entry)) (now (counts .entry)) «bytes_saved» ⌝ }
 {
     let c = counters_of(state);

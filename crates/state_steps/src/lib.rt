@@ -7,11 +7,10 @@ use cell_nursery::Found;
 use counters::Applied;
 use counters::Got;
 use counters::Shrunk;
-use state_words::put_counters;
-use state_words::put_nursery;
+use state_words::counters_words;
+use state_words::nursery_words;
 ghost use mathlib.Core.Path.{_≡_};
 ghost use mathlib.Core.List.{[], _∷_};
-ghost use lib.ListN.{length};
 ghost use Rattle.base.specs.Answers.{answerNumber};
 ghost use Rattle.state_words.specs.Words.{countersWords, nurseryWords, bit, decisions};
 
@@ -25,19 +24,17 @@ pub fn put_got(got: Got, count: &mut [u64; 1]) -> u8
 }
 
 // The record that a batch leaves is written, and its answer's number returned.
-pub fn put_applied(applied: Applied, state: &mut [u64]) -> u8
-    requires { ⌜ length (now state) ≡ 13 ⌝ }
+pub fn put_applied(applied: Applied, state: &mut [u64; 13]) -> u8
     ensures { λ r. ⌜ (r ≡ answerNumber (applied .answer)) × (now (state .exit) ≡ countersWords (applied .counters)) ⌝ }
 {
     let c = applied.counters;
-    put_counters(state, c);
+    *state = counters_words(c);
     let a = applied.answer;
     a.number()
 }
 
 // The nine decisions and the record after them are written, and the answer's number returned.
-pub fn put_shrunk(decided: Shrunk, state: &mut [u64], shrunk: &mut [u64; 9]) -> u8
-    requires { ⌜ length (now state) ≡ 13 ⌝ }
+pub fn put_shrunk(decided: Shrunk, state: &mut [u64; 13], shrunk: &mut [u64; 9]) -> u8
     ensures { λ r. ⌜ (r ≡ answerNumber (decided .answer)) × (now (shrunk .exit) ≡ decisions (decided .alive) (decided .small)) × (now (state .exit) ≡ countersWords (decided .counters)) ⌝ }
 {
     let s = decided.small;
@@ -53,30 +50,28 @@ pub fn put_shrunk(decided: Shrunk, state: &mut [u64], shrunk: &mut [u64; 9]) -> 
         s[7] as u64,
     ];
     let c = decided.counters;
-    put_counters(state, c);
+    *state = counters_words(c);
     let a = decided.answer;
     a.number()
 }
 
 // The record that a call leaves is written, and its answer's number returned.
-pub fn put_committed(committed: Committed, nursery: &mut [u64]) -> u8
-    requires { ⌜ length (now nursery) ≡ 3 ⌝ }
+pub fn put_committed(committed: Committed, nursery: &mut [u64; 3]) -> u8
     ensures { λ r. ⌜ (r ≡ answerNumber (committed .answer)) × (now (nursery .exit) ≡ nurseryWords (committed .nursery)) ⌝ }
 {
     let after = committed.nursery;
-    put_nursery(nursery, after);
+    *nursery = nursery_words(after);
     let a = committed.answer;
     a.number()
 }
 
 // The record after draining and how many bytes were handed out are written, and the answer's number returned.
-pub fn put_drained(drained: Drained, nursery: &mut [u64], len: &mut [u64; 1]) -> u8
-    requires { ⌜ length (now nursery) ≡ 3 ⌝ }
+pub fn put_drained(drained: Drained, nursery: &mut [u64; 3], len: &mut [u64; 1]) -> u8
     ensures { λ r. ⌜ (r ≡ answerNumber (drained .answer)) × (now (len .exit) ≡ drained .len ∷ []) × (now (nursery .exit) ≡ nurseryWords (drained .nursery)) ⌝ }
 {
     *len = [drained.len as u64];
     let after = drained.nursery;
-    put_nursery(nursery, after);
+    *nursery = nursery_words(after);
     let a = drained.answer;
     a.number()
 }

@@ -4,12 +4,9 @@ use Prim.Native.Nat.{ℕ}
 use mathlib.Core.Path.{_≡_}
 use mathlib.Core.Bool.{Bool, true, false}
 use mathlib.Core.List.{List, [], _∷_}
-use lib.ListN.{length, getD}
-use lib.Dec.{eqb}
-use Rattle.base.specs.Logic.{pick}
-use Rattle.base.specs.Answers.{answerNumber, numberOf}
+use lib.ListN.{getD}
+use Rattle.base.specs.Answers.{answerNumber}
 use Rattle.base.specs.Output.{Written}
-use Rattle.base.specs.declared.Refusal.the-variants.{Broken}
 use Rattle.counters.specs.declared.Counters.{Counters}
 use Rattle.cell_nursery.specs.declared.Nursery.{Nursery}
 
@@ -69,10 +66,6 @@ pub record Said : Type 0 where
 abbrev pub said : ℕ → List (List ℕ) → List (List ℕ) → Said
 said r vs ls = record { answer = r; values = vs; lent = ls }
 
--- 20, with these values and slices
-abbrev pub brokenSaid : List (List ℕ) → List (List ℕ) → Said
-brokenSaid vs ls = said (numberOf Broken) vs ls
-
 -- one value of one word
 abbrev pub oneWord : ℕ → List (List ℕ)
 oneWord n = (n ∷ []) ∷ []
@@ -88,11 +81,3 @@ Unchanged vs ls s = (s .answer ≡ 0 → ⊥) → (s .values ≡ vs) × (s .lent
 -- a slice that a call leaves, by its place
 abbrev pub left : ℕ → Said → List ℕ
 left k s = getD (s .lent) k []
-
--- a call on the counters that a slice of 13 words spells; with another length, what stands first
-unfoldable pub overCounters : List ℕ → Said → (Counters → Said) → Said
-overCounters w d f = pick (eqb (length w) 13) (f (countersOf w)) d
-
--- a call on the nursery that a slice of 3 words spells; with another length, what stands first
-unfoldable pub overNursery : List ℕ → Said → (Nursery → Said) → Said
-overNursery w d f = pick (eqb (length w) 3) (f (nurseryOf w)) d

@@ -1,27 +1,13 @@
 // The two state records as words in the order of docs/LAYOUT.md, for the calls that are lent words.
-use base::Answer;
-use base::Refusal;
 use cell_nursery::Nursery;
 use counters::CounterMaintenance;
 use counters::Counters;
 use counters::NextIdx;
 ghost use mathlib.Core.Path.{_≡_};
-ghost use lib.ListN.{length};
-ghost use Rattle.base.specs.Answers.{numberOf};
-ghost use Rattle.base.specs.declared.Refusal.the-variants as refusals;
 ghost use Rattle.state_words.specs.Words.{countersOf, countersWords, nurseryOf, nurseryWords};
 
-// The answer where a record isn't lent in as many words as it has.
-pub fn broken() -> u8
-    ensures { λ r. ⌜ r ≡ numberOf refusals.Broken ⌝ }
-{
-    let a = Answer::Refused(Refusal::Broken);
-    a.number()
-}
-
 // The counters that 13 words spell.
-pub fn counters_of(w: &[u64]) -> Counters
-    requires { ⌜ length (now w) ≡ 13 ⌝ }
+pub fn counters_of(w: &[u64; 13]) -> Counters
     ensures { λ r. ⌜ r ≡ countersOf (now (w .entry)) ⌝ }
 {
     Counters {
@@ -36,7 +22,8 @@ pub fn counters_of(w: &[u64]) -> Counters
     }
 }
 
-fn counters_words(c: Counters) -> [u64; 13]
+// The 13 words of counters.
+pub fn counters_words(c: Counters) -> [u64; 13]
     ensures { λ r. ⌜ r ≡ countersWords c ⌝ }
 {
     let m = c.maintenance;
@@ -58,18 +45,8 @@ fn counters_words(c: Counters) -> [u64; 13]
     ]
 }
 
-// The words of counters go into 13 words.
-pub fn put_counters(w: &mut [u64], c: Counters)
-    requires { ⌜ length (now w) ≡ 13 ⌝ }
-    ensures { λ _. ⌜ now (w .exit) ≡ countersWords c ⌝ }
-{
-    let words = counters_words(c);
-    word_slices::copy_at(w, 0, &words);
-}
-
 // The nursery that 3 words spell.
-pub fn nursery_of(w: &[u64]) -> Nursery
-    requires { ⌜ length (now w) ≡ 3 ⌝ }
+pub fn nursery_of(w: &[u64; 3]) -> Nursery
     ensures { λ r. ⌜ r ≡ nurseryOf (now (w .entry)) ⌝ }
 {
     Nursery {
@@ -79,11 +56,9 @@ pub fn nursery_of(w: &[u64]) -> Nursery
     }
 }
 
-// The words of a nursery go into 3 words.
-pub fn put_nursery(w: &mut [u64], n: Nursery)
-    requires { ⌜ length (now w) ≡ 3 ⌝ }
-    ensures { λ _. ⌜ now (w .exit) ≡ nurseryWords n ⌝ }
+// The 3 words of a nursery.
+pub fn nursery_words(n: Nursery) -> [u64; 3]
+    ensures { λ r. ⌜ r ≡ nurseryWords n ⌝ }
 {
-    let words = [n.entries as u64, n.waiting as u64, n.cell_bytes as u64];
-    word_slices::copy_at(w, 0, &words);
+    [n.entries as u64, n.waiting as u64, n.cell_bytes as u64]
 }

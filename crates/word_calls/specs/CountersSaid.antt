@@ -1,9 +1,8 @@
 -- What the calls on the counters and on their snapshots say where the state record is lent as words: the call under each, by the
--- record that the words spell. A record of another length is 20, with values of 0 and nothing changed.
+-- record that the words spell.
 -- Assumes nothing.
 use Prim.Native.Nat.{ℕ}
 use mathlib.Core.List.{List, [], _∷_}
-use Rattle.base.specs.Logic.{zeros}
 use Rattle.base.specs.Answers.{answerNumber}
 use Rattle.base.specs.declared.Answer.{Answer}
 use Rattle.base.specs.declared.Answer.the-variants.{Taken, Refused}
@@ -15,7 +14,7 @@ use Rattle.counters.specs.declared.Shrunk.{Shrunk}
 use Rattle.counters.specs.Maintenance.{standard}
 use Rattle.counters.specs.Calls.{Changed, newCall, allocCall, getCall, batchCall, shrinkCall}
 use Rattle.snapshot.specs.Calls.{serializeCall, deserializeCall, lengthCall}
-use Rattle.state_words.specs.Words.{countersWords, decisions, Said, said, oneWord, writtenSaid, brokenSaid, overCounters}
+use Rattle.state_words.specs.Words.{countersOf, countersWords, decisions, Said, said, oneWord, writtenSaid}
 
 -- ---- what the calls under them give, in words
 
@@ -51,33 +50,33 @@ readSaid w x = said (answerNumber (x .result .answer)) [] (wordsAfter w (x .resu
 -- ---- the calls, where w is the record's words and t the table of counts
 
 -- fresh counters at a next index, whatever the words and the table were
-unfoldable pub newSaid : ℕ → List ℕ → List ℕ → Said
-newSaid next w t = overCounters w (brokenSaid [] (w ∷ t ∷ [])) (λ _. changedSaid (newCall (standard .base) (record { 0 = next }) t))
+unfoldable pub newSaid : ℕ → List ℕ → Said
+newSaid next t = changedSaid (newCall (standard .base) (record { 0 = next }) t)
 
 -- the next index handed out
 unfoldable pub allocSaid : List ℕ → Said
-allocSaid w = overCounters w (brokenSaid (oneWord 0) (w ∷ [])) (λ c. allocatedSaid (allocCall c))
+allocSaid w = allocatedSaid (allocCall (countersOf w))
 
 -- the count at index i
 unfoldable pub getSaid : List ℕ → List ℕ → ℕ → Said
-getSaid w t i = overCounters w (brokenSaid (oneWord 0) []) (λ c. gotSaid (getCall c t (record { 0 = i })))
+getSaid w t i = gotSaid (getCall (countersOf w) t (record { 0 = i }))
 
 -- the batch of the words b
 unfoldable pub batchSaid : List ℕ → List ℕ → List ℕ → Said
-batchSaid w t b = overCounters w (brokenSaid [] (w ∷ t ∷ [])) (λ c. changedSaid (batchCall c t b))
+batchSaid w t b = changedSaid (batchCall (countersOf w) t b)
 
 -- maintenance, where the alive shrink saves so many bytes
 unfoldable pub shrinkSaid : List ℕ → List ℕ → ℕ → Said
-shrinkSaid w t saved = overCounters w (brokenSaid (zeros 9 ∷ []) (w ∷ [])) (λ c. shrunkSaid (shrinkCall standard c t saved))
+shrinkSaid w t saved = shrunkSaid (shrinkCall standard (countersOf w) t saved)
 
 -- how many bytes the snapshot takes
 unfoldable pub lengthSaid : List ℕ → List ℕ → Said
-lengthSaid w t = overCounters w (brokenSaid (oneWord 0) []) (λ c. lengthFound (lengthCall c t))
+lengthSaid w t = lengthFound (lengthCall (countersOf w) t)
 
 -- the snapshot into an output
 unfoldable pub serializeSaid : List ℕ → List ℕ → List ℕ → Said
-serializeSaid w t out = overCounters w (brokenSaid (oneWord 0) (out ∷ [])) (λ c. writtenSaid (serializeCall c t out))
+serializeSaid w t out = writtenSaid (serializeCall (countersOf w) t out)
 
 -- the counters of the snapshot bs, whatever the words and the table were
 unfoldable pub deserializeSaid : List ℕ → List ℕ → List ℕ → Said
-deserializeSaid bs w t = overCounters w (brokenSaid [] (w ∷ t ∷ [])) (λ _. readSaid w (deserializeCall (standard .base) bs t))
+deserializeSaid bs w t = readSaid w (deserializeCall (standard .base) bs t)

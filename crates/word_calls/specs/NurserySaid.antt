@@ -10,7 +10,7 @@ use Rattle.cell_nursery.specs.declared.Found.{Found}
 use Rattle.cell_nursery.specs.declared.Data.{Data}
 use Rattle.cell_nursery.specs.Drain.{promotionDelay}
 use Rattle.cell_nursery.specs.Calls.{Changed, newCall, deltaCall, DrainedOut, drainCall, lookupCall, dataCall, listingCall}
-use Rattle.state_words.specs.Words.{nurseryWords, Said, said, brokenSaid, overNursery, bit, oneWord, writtenSaid}
+use Rattle.state_words.specs.Words.{nurseryOf, nurseryWords, Said, said, bit, oneWord, writtenSaid}
 
 -- a flag over the C boundary: any number but 0 says yes
 abbrev pub flag : ℕ → Bool
@@ -21,14 +21,14 @@ unfoldable pub committedSaid : Changed → Said
 committedSaid x =
     said (answerNumber (x .result .answer)) [] (nurseryWords (x .result .nursery) ∷ x .entries ∷ x .waiting ∷ x .cells ∷ [])
 
--- an empty nursery, whatever was in the tables
-unfoldable pub emptySaid : List ℕ → List ℕ → List ℕ → List ℕ → Said
-emptySaid w es ws cs = overNursery w (brokenSaid [] (w ∷ es ∷ ws ∷ cs ∷ [])) (λ r. committedSaid (newCall es ws cs))
+-- an empty nursery, whatever was in the record and the tables
+unfoldable pub emptySaid : List ℕ → List ℕ → List ℕ → Said
+emptySaid es ws cs = committedSaid (newCall es ws cs)
 
 -- a delta
 unfoldable pub commitSaid : List ℕ → List ℕ → List ℕ → List ℕ → ℕ → ℕ → ℕ → List ℕ → Said
 commitSaid w es ws cs wide inserts removes items =
-    overNursery w (brokenSaid [] (w ∷ es ∷ ws ∷ cs ∷ [])) (λ r. committedSaid (deltaCall r es ws cs (flag wide) inserts removes items))
+    committedSaid (deltaCall (nurseryOf w) es ws cs (flag wide) inserts removes items)
 
 -- what draining hands out: how many bytes of the output it is; the record's words, the waiting rows and the output after it
 unfoldable pub drainedSaid : DrainedOut → Said
@@ -37,8 +37,7 @@ drainedSaid x =
 
 -- draining at a round
 unfoldable pub drainSaid : List ℕ → List ℕ → List ℕ → List ℕ → ℕ → List ℕ → Said
-drainSaid w es ws cs round out =
-    overNursery w (brokenSaid (oneWord 0) (w ∷ ws ∷ out ∷ [])) (λ r. drainedSaid (drainCall promotionDelay r es ws cs round out))
+drainSaid w es ws cs round out = drainedSaid (drainCall promotionDelay (nurseryOf w) es ws cs round out)
 
 -- whether a hash is there, and its index
 unfoldable pub foundSaid : Found → Said
@@ -46,7 +45,7 @@ foundSaid f = said (answerNumber (f .answer)) ((bit (f .found) ∷ f .idx .0 ∷
 
 -- a lookup by a hash's 32 bytes
 unfoldable pub idxSaid : List ℕ → List ℕ → List ℕ → Said
-idxSaid w es hash = overNursery w (brokenSaid ((0 ∷ 0 ∷ []) ∷ []) []) (λ r. foundSaid (lookupCall r es (unbe hash)))
+idxSaid w es hash = foundSaid (lookupCall (nurseryOf w) es (unbe hash))
 
 -- whether a hash is there, and the place and the length of its cell
 unfoldable pub placedSaid : Data → Said
@@ -54,10 +53,8 @@ placedSaid d = said (answerNumber (d .answer)) ((bit (d .found) ∷ d .place ∷
 
 -- the cell of a hash
 unfoldable pub dataSaid : List ℕ → List ℕ → List ℕ → List ℕ → Said
-dataSaid w es cs hash =
-    overNursery w (brokenSaid ((0 ∷ 0 ∷ 0 ∷ []) ∷ []) []) (λ r. placedSaid (dataCall r es cs (unbe hash)))
+dataSaid w es cs hash = placedSaid (dataCall (nurseryOf w) es cs (unbe hash))
 
 -- the listing
 unfoldable pub listingSaid : List ℕ → List ℕ → List ℕ → List ℕ → Said
-listingSaid w es cs out =
-    overNursery w (brokenSaid (oneWord 0) (out ∷ [])) (λ r. writtenSaid (listingCall r es cs out))
+listingSaid w es cs out = writtenSaid (listingCall (nurseryOf w) es cs out)

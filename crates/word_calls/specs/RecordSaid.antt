@@ -8,7 +8,7 @@ use Rattle.format.specs.declared.RecordStats.{RecordStats}
 use Rattle.format.specs.declared.Decoded.{Decoded}
 use Rattle.format.specs.Calls.{EncodedOut, encodeCall, decodeCall}
 use Rattle.journal.specs.Journal.{ReadIn, readCall}
-use Rattle.state_words.specs.Words.{nurseryWords, Said, said, brokenSaid, overNursery}
+use Rattle.state_words.specs.Words.{nurseryWords, Said, said}
 use Rattle.word_calls.specs.NurserySaid.{flag}
 
 -- the figures of a record
@@ -37,7 +37,6 @@ readInSaid x =
     said (answerNumber (x .result .ended)) ((x .result .applied ∷ x .result .place ∷ []) ∷ [])
     (nurseryWords (x .result .nursery) ∷ x .entries ∷ x .waiting ∷ x .cells ∷ [])
 
--- a journal, read into an empty nursery, whatever was in the tables
-unfoldable pub journalSaid : List ℕ → List ℕ → List ℕ → List ℕ → List ℕ → Said
-journalSaid bs w es ws cs =
-    overNursery w (brokenSaid ((0 ∷ 0 ∷ []) ∷ []) (w ∷ es ∷ ws ∷ cs ∷ [])) (λ r. readInSaid (readCall hash bs es ws cs))
+-- a journal, read into an empty nursery, whatever was in the record and the tables
+unfoldable pub journalSaid : List ℕ → List ℕ → List ℕ → List ℕ → Said
+journalSaid bs es ws cs = readInSaid (readCall hash bs es ws cs)

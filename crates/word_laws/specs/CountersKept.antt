@@ -1,13 +1,15 @@
--- Two promises of include/selvaigo.h for the calls on the counters and on their snapshots. Beside a refusal values are zeros and no slice is
--- changed. And what the calls leave of a record and a table may be lent to the held forms, if nothing but calls has written them.
+-- The promises of include/selvaigo.h for the calls on the counters and on their snapshots. Making counters is never refused. Beside a refusal
+-- values are zeros, and no slice and no record is changed. And what the calls leave of a record and a table may be lent to the held forms, if
+-- nothing but calls has written them.
 -- Assumes nothing.
 use Prim.Native.Nat.{ℕ}
-use mathlib.Core.Path.{_≡_, refl, subst}
-use mathlib.Core.Bool.{true}
+use mathlib.Core.Path.{_≡_, refl}
+use mathlib.Core.Bool.{true, or-true}
 use mathlib.Core.List.{List, [], _∷_}
 use native.Mathlib.Omega.{arith}
 use lib.ListN.{length}
-use Rattle.base.specs.Logic.{zeros}
+use lib.Dec.{eqb}
+use Rattle.base.specs.Logic.{any, elem, zeros}
 use Rattle.base.specs.Answers.{Outcome, refused, taken, _>>=_, orRefuse, answerOf, valueOr, answerNumber, numberOf}
 use Rattle.base.specs.Output.{put, fitting, written}
 use Rattle.base.specs.declared.Answer.{Answer}
@@ -24,85 +26,98 @@ use Rattle.counters.specs.CallLaws.{new-holds, alloc-holds, batch-holds, shrink
 use Rattle.snapshot.specs.Write.{snapshotBytes}
 use Rattle.snapshot.specs.Read.{readSnapshot}
 use Rattle.snapshot.specs.Calls.{serializeCall, deserializeCall, lengthCall}
+use Rattle.snapshot_laws.specs.RefusalLaws.{read-numbers}
 use Rattle.snapshot_laws.specs.CallLaws.{deserialize-taken-holds}
 use Rattle.state_words.specs.Words.{countersOf, countersWords, oneWord, writtenSaid, Unchanged, left}
-use Rattle.state_words.specs.WordLaws.{counters-words-back, length-counters-words, over-counters, each-counters-way}
+use Rattle.state_words.specs.WordLaws.{counters-words-back}
 use Rattle.word_calls.specs.CountersSaid.{wordsAfter, changedSaid, allocatedSaid, gotSaid, shrunkSaid, lengthFound, readSaid, newSaid, allocSaid, getSaid, batchSaid, shrinkSaid, lengthSaid, serializeSaid, deserializeSaid}
 
 -- ---- refusals
 
-module _ (w : List ℕ) where
-  pub new-unchanged : (next : ℕ) (t : List ℕ) → Unchanged [] (w ∷ t ∷ []) (newSaid next w t)
-  unfolding newSaid changedSaid newCall laid
-  new-unchanged next t = each-counters-way w _ (Unchanged [] (w ∷ t ∷ [])) _ (λ e n. absurd (n refl)) (λ n. (refl, refl))
+pub new-taken : (next : ℕ) (t : List ℕ) → newSaid next t .answer ≡ 0
+unfolding newSaid changedSaid newCall laid
+new-taken next t = refl
 
+-- where the record is lent as 13 words, as its type says
+module _ (w : List ℕ) (e : length w ≡ 13) where
   pub alloc-unchanged : Unchanged (oneWord 0) (w ∷ []) (allocSaid w)
   unfolding allocSaid allocatedSaid allocCall allocated
-  alloc-unchanged = each-counters-way w _ (Unchanged (oneWord 0) (w ∷ [])) _ (λ e. go e (allocate (countersOf w .«next_idx» .0))) (λ n. (refl, refl))
+  alloc-unchanged = go (allocate (countersOf w .«next_idx» .0))
     where
-      go : length w ≡ 13 → (o : Outcome ℕ) → Unchanged (oneWord 0) (w ∷ []) (allocatedSaid (allocated (countersOf w) o))
-      go e (refused r) n = (refl, rw (counters-words-back w e))
-      go e (taken k) n = absurd (n refl)
+      go : (o : Outcome ℕ) → Unchanged (oneWord 0) (w ∷ []) (allocatedSaid (allocated (countersOf w) o))
+      go (refused r) n = (refl, rw (counters-words-back w e))
+      go (taken k) n = absurd (n refl)
 
   module _ (t : List ℕ) where
-    pub get-unchanged : (i : ℕ) → Unchanged (oneWord 0) [] (getSaid w t i)
-    unfolding getSaid gotSaid getCall
-    get-unchanged i = each-counters-way w _ (Unchanged (oneWord 0) []) _ (λ e. go (onState (countersOf w) t (λ s. get s i))) (λ n. (refl, refl))
-      where
-        go : (o : Outcome ℕ) → Unchanged (oneWord 0) [] (gotSaid (record { answer = answerOf o; count = record { 0 = valueOr 0 o } }))
-        go (refused r) n = (refl, refl)
-        go (taken k) n = absurd (n refl)
-
     pub batch-unchanged : (b : List ℕ) → Unchanged [] (w ∷ t ∷ []) (batchSaid w t b)
     unfolding batchSaid changedSaid batchCall laidOut laid
-    batch-unchanged b = each-counters-way w _ (Unchanged [] (w ∷ t ∷ [])) _ (λ e. go e (onState (countersOf w) t (λ s. orRefuse Broken (batchOf b) >>= applyBatch (roomOf t) s))) (λ n. (refl, refl))
+    batch-unchanged b = go (onState (countersOf w) t (λ s. orRefuse Broken (batchOf b) >>= applyBatch (roomOf t) s))
       where
-        go : length w ≡ 13 → (o : Outcome State) → Unchanged [] (w ∷ t ∷ []) (changedSaid (laidOut (countersOf w) t o))
-        go e (refused r) n = (refl, rw (counters-words-back w e))
-        go e (taken s) n = absurd (n refl)
+        go : (o : Outcome State) → Unchanged [] (w ∷ t ∷ []) (changedSaid (laidOut (countersOf w) t o))
+        go (refused r) n = (refl, rw (counters-words-back w e))
+        go (taken s) n = absurd (n refl)
 
     pub shrink-unchanged : (saved : ℕ) → Unchanged (zeros 9 ∷ []) (w ∷ []) (shrinkSaid w t saved)
     unfolding shrinkSaid shrunkSaid shrinkCall decided
-    shrink-unchanged saved = each-counters-way w _ (Unchanged (zeros 9 ∷ []) (w ∷ [])) _ (λ e. go e (onState (countersOf w) t taken)) (λ n. (refl, refl))
+    shrink-unchanged saved = go (onState (countersOf w) t taken)
       where
-        go : length w ≡ 13 → (o : Outcome State) → Unchanged (zeros 9 ∷ []) (w ∷ []) (shrunkSaid (decided standard saved (countersOf w) o))
-        go e (refused r) n = (refl, rw (counters-words-back w e))
-        go e (taken s) n = absurd (n refl)
-
-    pub length-unchanged : Unchanged (oneWord 0) [] (lengthSaid w t)
-    unfolding lengthSaid lengthFound lengthCall
-    length-unchanged = each-counters-way w _ (Unchanged (oneWord 0) []) _ (λ e. go (onState (countersOf w) t (λ s. taken (length (snapshotBytes s))))) (λ n. (refl, refl))
-      where
-        go : (o : Outcome ℕ) → Unchanged (oneWord 0) [] (lengthFound (record { answer = answerOf o; len = valueOr 0 o }))
-        go (refused r) n = (refl, refl)
-        go (taken k) n = absurd (n refl)
-
-    pub serialize-unchanged : (out : List ℕ) → Unchanged (oneWord 0) (out ∷ []) (serializeSaid w t out)
-    unfolding serializeSaid writtenSaid serializeCall written put
-    serialize-unchanged out = each-counters-way w _ (Unchanged (oneWord 0) (out ∷ [])) _ (λ e. go (fitting (length out) (onState (countersOf w) t (λ s. taken (snapshotBytes s))))) (λ n. (refl, refl))
-      where
-        go : (o : Outcome (List ℕ)) → Unchanged (oneWord 0) (out ∷ []) (writtenSaid (put out o))
-        go (refused r) n = (refl, refl)
-        go (taken bs) n = absurd (n refl)
-
-    pub deserialize-unchanged : (bs : List ℕ) → Unchanged [] (w ∷ t ∷ []) (deserializeSaid bs w t)
-    unfolding deserializeSaid readSaid deserializeCall laidOut laid
-    deserialize-unchanged bs = each-counters-way w _ (Unchanged [] (w ∷ t ∷ [])) _ (λ e. go (readSnapshot (standard .base) (roomOf t) bs)) (λ n. (refl, refl))
-      where
-        go : (o : Outcome State) → Unchanged [] (w ∷ t ∷ []) (readSaid w (laidOut (recordOf (fresh 0 0)) t o))
-        go (refused r) n = (refl, refl)
+        go : (o : Outcome State) → Unchanged (zeros 9 ∷ []) (w ∷ []) (shrunkSaid (decided standard saved (countersOf w) o))
+        go (refused r) n = (refl, rw (counters-words-back w e))
         go (taken s) n = absurd (n refl)
+
+module _ (w t : List ℕ) where
+  pub get-unchanged : (i : ℕ) → Unchanged (oneWord 0) [] (getSaid w t i)
+  unfolding getSaid gotSaid getCall
+  get-unchanged i = go (onState (countersOf w) t (λ s. get s i))
+    where
+      go : (o : Outcome ℕ) → Unchanged (oneWord 0) [] (gotSaid (record { answer = answerOf o; count = record { 0 = valueOr 0 o } }))
+      go (refused r) n = (refl, refl)
+      go (taken k) n = absurd (n refl)
+
+  pub length-unchanged : Unchanged (oneWord 0) [] (lengthSaid w t)
+  unfolding lengthSaid lengthFound lengthCall
+  length-unchanged = go (onState (countersOf w) t (λ s. taken (length (snapshotBytes s))))
+    where
+      go : (o : Outcome ℕ) → Unchanged (oneWord 0) [] (lengthFound (record { answer = answerOf o; len = valueOr 0 o }))
+      go (refused r) n = (refl, refl)
+      go (taken k) n = absurd (n refl)
+
+  pub serialize-unchanged : (out : List ℕ) → Unchanged (oneWord 0) (out ∷ []) (serializeSaid w t out)
+  unfolding serializeSaid writtenSaid serializeCall written put
+  serialize-unchanged out = go (fitting (length out) (onState (countersOf w) t (λ s. taken (snapshotBytes s))))
+    where
+      go : (o : Outcome (List ℕ)) → Unchanged (oneWord 0) (out ∷ []) (writtenSaid (put out o))
+      go (refused r) n = (refl, refl)
+      go (taken bs) n = absurd (n refl)
+
+  pub deserialize-unchanged : (bs : List ℕ) → Unchanged [] (w ∷ t ∷ []) (deserializeSaid bs w t)
+  unfolding deserializeSaid readSaid deserializeCall laidOut laid
+  deserialize-unchanged bs = go (readSnapshot (standard .base) (roomOf t) bs)
+    where
+      go : (o : Outcome State) → Unchanged [] (w ∷ t ∷ []) (readSaid w (laidOut (recordOf (fresh 0 0)) t o))
+      go (refused r) n = (refl, refl)
+      go (taken s) n = absurd (n refl)
+
+  -- a snapshot is refused with one of these: reading it in never gives 20
+  pub deserialize-numbers : (bs : List ℕ) → elem (deserializeSaid bs w t .answer) (0 ∷ 8 ∷ 7 ∷ 9 ∷ 10 ∷ 11 ∷ 6 ∷ []) ≡ true
+  unfolding deserializeSaid readSaid deserializeCall laidOut laid any
+  deserialize-numbers bs = go (readSnapshot (standard .base) (roomOf t) bs) refl
+    where
+      go : (o : Outcome State) → readSnapshot (standard .base) (roomOf t) bs ≡ o
+          → elem (answerNumber (laidOut (recordOf (fresh 0 0)) t o .result .answer)) (0 ∷ 8 ∷ 7 ∷ 9 ∷ 10 ∷ 11 ∷ 6 ∷ []) ≡ true
+      go (refused r) e = rw (read-numbers (standard .base) (roomOf t) bs r e) (or-true (eqb (numberOf r) 0))
+      go (taken s) e = refl
 
 -- ---- what is left may be lent to the held forms
 
 -- what the held forms require
 abbrev pub Held : List ℕ → List ℕ → Type 0
-Held w t = (length w ≡ 13) × (holds (countersOf w) t ≡ true)
+Held w t = holds (countersOf w) t ≡ true
 
 -- a record's words hold what it holds
 words-held : (c : Counters) (t : List ℕ) → holds c t ≡ true → Held (countersWords c) t
 unfolding holds
-words-held c t h = (length-counters-words c, h)
+words-held c t h = h
 
 -- no refusal has the number 0
 number-not-zero : (r : Refusal) → numberOf r ≡ 0 → ⊥
@@ -127,36 +142,34 @@ number-not-zero Mismatch e = omega arith
 number-not-zero Misfit e = omega arith
 number-not-zero Broken e = omega arith
 
-module _ (w t : List ℕ) where
-  pub new-held : (next : ℕ) → length w ≡ 13 → Held (left 0 (newSaid next w t)) (left 1 (newSaid next w t))
-  unfolding newSaid changedSaid
-  new-held next e =
-      let x = newCall (standard .base) (record { 0 = next }) t in
-      subst (λ s. Held (left 0 s) (left 1 s)) (over-counters w _ _ e) (words-held (x .result .counters) (x .table) (new-holds (standard .base) (record { 0 = next }) t))
+pub new-held : (next : ℕ) (t : List ℕ) → Held (left 0 (newSaid next t)) (left 1 (newSaid next t))
+unfolding newSaid changedSaid
+new-held next t =
+    let x = newCall (standard .base) (record { 0 = next }) t in
+    words-held (x .result .counters) (x .table) (new-holds (standard .base) (record { 0 = next }) t)
 
+module _ (w t : List ℕ) where
   -- whatever the answer
   module _ (h : Held w t) where
     pub alloc-held : Held (left 0 (allocSaid w)) t
     unfolding allocSaid allocatedSaid
-    alloc-held = subst (λ s. Held (left 0 s) t) (over-counters w _ _ (h .0)) (words-held (allocCall (countersOf w) .counters) t (alloc-holds (countersOf w) t (h .1)))
+    alloc-held = words-held (allocCall (countersOf w) .counters) t (alloc-holds (countersOf w) t h)
 
     pub batch-held : (b : List ℕ) → Held (left 0 (batchSaid w t b)) (left 1 (batchSaid w t b))
     unfolding batchSaid changedSaid
     batch-held b =
         let x = batchCall (countersOf w) t b in
-        subst (λ s. Held (left 0 s) (left 1 s)) (over-counters w _ _ (h .0)) (words-held (x .result .counters) (x .table) (batch-holds (countersOf w) t b (h .1)))
+        words-held (x .result .counters) (x .table) (batch-holds (countersOf w) t b h)
 
     pub shrink-held : (saved : ℕ) → Held (left 0 (shrinkSaid w t saved)) t
     unfolding shrinkSaid shrunkSaid
-    shrink-held saved =
-        subst (λ s. Held (left 0 s) t) (over-counters w _ _ (h .0)) (words-held (shrinkCall standard (countersOf w) t saved .counters) t (shrink-holds standard (countersOf w) t saved (h .1)))
+    shrink-held saved = words-held (shrinkCall standard (countersOf w) t saved .counters) t (shrink-holds standard (countersOf w) t saved h)
 
-  pub deserialize-held : (bs : List ℕ) → length w ≡ 13 → deserializeSaid bs w t .answer ≡ 0 → Held (left 0 (deserializeSaid bs w t)) (left 1 (deserializeSaid bs w t))
+  pub deserialize-held : (bs : List ℕ) → deserializeSaid bs w t .answer ≡ 0 → Held (left 0 (deserializeSaid bs w t)) (left 1 (deserializeSaid bs w t))
   unfolding deserializeSaid readSaid
-  deserialize-held bs e =
+  deserialize-held bs =
       let x = deserializeCall (standard .base) bs t in
-      subst (λ s. s .answer ≡ 0 → Held (left 0 s) (left 1 s)) (over-counters w _ (λ _. readSaid w x) e)
-      (go (x .result .answer) (x .result .counters) (x .table) (deserialize-taken-holds (standard .base) bs t))
+      go (x .result .answer) (x .result .counters) (x .table) (deserialize-taken-holds (standard .base) bs t)
     where
       go : (a : Answer) (c : Counters) (u : List ℕ) → (a ≡ Taken → holds c u ≡ true) → answerNumber a ≡ 0 → Held (wordsAfter w a c) u
       go Taken c u h n = words-held c u (h refl)

@@ -1,8 +1,9 @@
--- Two promises of include/selvaigo.h for the nursery's calls. Beside a refusal values are zeros and no slice is changed. And what the calls
--- leave of a record and its tables may be lent to the held forms, if nothing but calls has written them.
+-- The promises of include/selvaigo.h for the nursery's calls. Making a nursery is never refused. Beside a refusal values are zeros, and no slice
+-- and no record is changed. And what the calls leave of a record and its tables may be lent to the held forms, if nothing but calls has written
+-- them.
 -- Assumes nothing.
 use Prim.Native.Nat.{ℕ}
-use mathlib.Core.Path.{_≡_, refl, subst}
+use mathlib.Core.Path.{_≡_, refl}
 use mathlib.Core.Bool.{true, not, _&&_}
 use mathlib.Core.Option.{Option, none, some}
 use mathlib.Core.List.{List, [], _∷_}
@@ -20,45 +21,41 @@ use Rattle.cell_nursery.specs.Layout.{roomOf, stateOf, entriesOf, holds, holdsE
 use Rattle.cell_nursery.specs.HashLaws.{U64}
 use Rattle.cell_nursery.specs.Calls.{lengthWidth, onState, laid, laidOut, newCall, deltaCall, drainedOut, drainCall, foundOf, lookupCall, cellAt, dataOf, dataCall, listingCall}
 use Rattle.state_words.specs.Words.{nurseryOf, nurseryWords, oneWord, writtenSaid, Unchanged, left}
-use Rattle.state_words.specs.WordLaws.{nursery-words-back, length-nursery-words, over-nursery, each-nursery-way}
+use Rattle.state_words.specs.WordLaws.{nursery-words-back}
 use Rattle.journal_laws.specs.DeltaLaws.{Bytes}
 use Rattle.journal_laws.specs.HoldLaws.{new-holds, delta-holds, drain-holds}
 use Rattle.word_calls.specs.NurserySaid.{flag, committedSaid, emptySaid, commitSaid, drainedSaid, drainSaid, foundSaid, idxSaid, placedSaid, dataSaid, listingSaid}
 
 -- ---- refusals
-module _ (w es ws cs : List ℕ) where
-  laid-unchanged : (r : Nursery) (o : Outcome State) → nurseryWords r ≡ w → Unchanged [] (w ∷ es ∷ ws ∷ cs ∷ []) (committedSaid (laidOut r es ws cs o))
-  unfolding committedSaid laidOut laid
-  laid-unchanged r (refused q) e n = (refl, rw e)
-  laid-unchanged r (taken s) e n = absurd (n refl)
+pub empty-taken : (es ws cs : List ℕ) → emptySaid es ws cs .answer ≡ 0
+unfolding emptySaid committedSaid newCall laid
+empty-taken es ws cs = refl
 
-  pub empty-unchanged : Unchanged [] (w ∷ es ∷ ws ∷ cs ∷ []) (emptySaid w es ws cs)
-  unfolding emptySaid committedSaid newCall laid
-  empty-unchanged = each-nursery-way w _ (Unchanged [] (w ∷ es ∷ ws ∷ cs ∷ [])) _ (λ e n. absurd (n refl)) (λ n. (refl, refl))
-
+-- where the record is lent as 3 words, as its type says
+module _ (w es ws cs : List ℕ) (e : length w ≡ 3) where
   pub commit-unchanged : (wide inserts removes : ℕ) (items : List ℕ) → Unchanged [] (w ∷ es ∷ ws ∷ cs ∷ []) (commitSaid w es ws cs wide inserts removes items)
-  unfolding commitSaid deltaCall
+  unfolding commitSaid committedSaid deltaCall laidOut laid
   commit-unchanged wide inserts removes items =
-      each-nursery-way w _ (Unchanged [] (w ∷ es ∷ ws ∷ cs ∷ [])) _ (λ e.
-      laid-unchanged (nurseryOf w) (onState (nurseryOf w) es ws cs (λ s.
-      orRefuse Broken (deltaOf (lengthWidth (flag wide)) inserts removes items) >>= applyDelta (roomOf es ws cs) s)) (nursery-words-back w e)) (λ n. (refl, refl))
+      go (onState (nurseryOf w) es ws cs (λ s. orRefuse Broken (deltaOf (lengthWidth (flag wide)) inserts removes items) >>= applyDelta (roomOf es ws cs) s))
+    where
+      go : (o : Outcome State) → Unchanged [] (w ∷ es ∷ ws ∷ cs ∷ []) (committedSaid (laidOut (nurseryOf w) es ws cs o))
+      go (refused q) n = (refl, rw (nursery-words-back w e))
+      go (taken s) n = absurd (n refl)
 
   pub drain-unchanged : (round : ℕ) (out : List ℕ) → Unchanged (oneWord 0) (w ∷ ws ∷ out ∷ []) (drainSaid w es ws cs round out)
   unfolding drainSaid drainCall drainedSaid drainedOut
   drain-unchanged round out =
-      each-nursery-way w _ (Unchanged (oneWord 0) (w ∷ ws ∷ out ∷ [])) _ (λ e.
-      go (nurseryOf w) (fitting (length out) (onState (nurseryOf w) es ws cs (λ s. taken (drainBytes promotionDelay round s)))) (nursery-words-back w e)) (λ n. (refl, refl))
+      go (fitting (length out) (onState (nurseryOf w) es ws cs (λ s. taken (drainBytes promotionDelay round s))))
     where
-      go : (r : Nursery) (o : Outcome (List ℕ)) → nurseryWords r ≡ w
-          → Unchanged (oneWord 0) (w ∷ ws ∷ out ∷ []) (drainedSaid (drainedOut r ws out o (drained promotionDelay round (stateOf (nurseryOf w) es ws cs))))
-      go r (refused q) e n = (refl, rw e)
-      go r (taken bs) e n = absurd (n refl)
+      go : (o : Outcome (List ℕ)) → Unchanged (oneWord 0) (w ∷ ws ∷ out ∷ []) (drainedSaid (drainedOut (nurseryOf w) ws out o (drained promotionDelay round (stateOf (nurseryOf w) es ws cs))))
+      go (refused q) n = (refl, rw (nursery-words-back w e))
+      go (taken bs) n = absurd (n refl)
 
+module _ (w es cs : List ℕ) where
   pub idx-unchanged : (hash : List ℕ) → Unchanged ((0 ∷ 0 ∷ []) ∷ []) [] (idxSaid w es hash)
   unfolding idxSaid lookupCall foundSaid foundOf
   idx-unchanged hash =
-      each-nursery-way w _ (Unchanged ((0 ∷ 0 ∷ []) ∷ []) []) _ (λ e.
-      go (refuseIf (not (holdsEntries (nurseryOf w) es)) Broken >> taken (lookup (unbe hash) (entriesOf (nurseryOf w .entries) es [])))) (λ n. (refl, refl))
+      go (refuseIf (not (holdsEntries (nurseryOf w) es)) Broken >> taken (lookup (unbe hash) (entriesOf (nurseryOf w .entries) es [])))
     where
       go : (o : Outcome (Option ℕ)) → Unchanged ((0 ∷ 0 ∷ []) ∷ []) [] (foundSaid (foundOf o))
       go (refused q) n = (refl, refl)
@@ -68,8 +65,7 @@ module _ (w es ws cs : List ℕ) where
   pub data-unchanged : (hash : List ℕ) → Unchanged ((0 ∷ 0 ∷ 0 ∷ []) ∷ []) [] (dataSaid w es cs hash)
   unfolding dataSaid dataCall placedSaid dataOf
   data-unchanged hash =
-      each-nursery-way w _ (Unchanged ((0 ∷ 0 ∷ 0 ∷ []) ∷ []) []) _ (λ e.
-      go (refuseIf (not (holdsEntries (nurseryOf w) es && holdsCells (nurseryOf w) cs)) Broken >> taken (cellAt (unbe hash) 0 (entriesOf (nurseryOf w .entries) es cs)))) (λ n. (refl, refl))
+      go (refuseIf (not (holdsEntries (nurseryOf w) es && holdsCells (nurseryOf w) cs)) Broken >> taken (cellAt (unbe hash) 0 (entriesOf (nurseryOf w .entries) es cs)))
     where
       go : (o : Outcome (Option (ℕ × ℕ))) → Unchanged ((0 ∷ 0 ∷ 0 ∷ []) ∷ []) [] (placedSaid (dataOf o))
       go (refused q) n = (refl, refl)
@@ -79,8 +75,7 @@ module _ (w es ws cs : List ℕ) where
   pub listing-unchanged : (out : List ℕ) → Unchanged (oneWord 0) (out ∷ []) (listingSaid w es cs out)
   unfolding listingSaid listingCall written writtenSaid put
   listing-unchanged out =
-      each-nursery-way w _ (Unchanged (oneWord 0) (out ∷ [])) _ (λ e.
-      go (fitting (length out) (refuseIf (not (holdsEntries (nurseryOf w) es && holdsCells (nurseryOf w) cs)) Broken >> taken (listingBytes (entriesOf (nurseryOf w .entries) es cs))))) (λ n. (refl, refl))
+      go (fitting (length out) (refuseIf (not (holdsEntries (nurseryOf w) es && holdsCells (nurseryOf w) cs)) Broken >> taken (listingBytes (entriesOf (nurseryOf w .entries) es cs))))
     where
       go : (o : Outcome (List ℕ)) → Unchanged (oneWord 0) (out ∷ []) (writtenSaid (put out o))
       go (refused q) n = (refl, refl)
@@ -90,49 +85,45 @@ module _ (w es ws cs : List ℕ) where
 
 -- what the held forms that are lent all tables require; the others require a part of it
 abbrev pub Held : List ℕ → List ℕ → List ℕ → List ℕ → Type 0
-Held w es ws cs = (length w ≡ 3) × (holds (nurseryOf w) es ws cs ≡ true)
+Held w es ws cs = holds (nurseryOf w) es ws cs ≡ true
 
 -- a record's words hold what it holds
 pub words-held : (r : Nursery) (es ws cs : List ℕ) → holds r es ws cs ≡ true → Held (nurseryWords r) es ws cs
 unfolding holds
-words-held r es ws cs h = (length-nursery-words r, h)
+words-held r es ws cs h = h
 
-module _ (w es ws cs : List ℕ) where
-  pub empty-held : length w ≡ 3
-      → let s = emptySaid w es ws cs in Held (left 0 s) (left 1 s) (left 2 s) (left 3 s)
-  unfolding emptySaid committedSaid
-  empty-held e =
-      let x = newCall es ws cs in
-      subst (λ s. Held (left 0 s) (left 1 s) (left 2 s) (left 3 s)) (over-nursery w _ _ e)
-      (words-held (x .result .nursery) (x .entries) (x .waiting) (x .cells) (new-holds es ws cs))
+pub empty-held : (es ws cs : List ℕ) → let s = emptySaid es ws cs in Held (left 0 s) (left 1 s) (left 2 s) (left 3 s)
+unfolding emptySaid committedSaid
+empty-held es ws cs =
+    let x = newCall es ws cs in
+    words-held (x .result .nursery) (x .entries) (x .waiting) (x .cells) (new-holds es ws cs)
 
-  -- whatever the answer, where the slices' items are words and bytes
-  module _ (u : U64 es) (v : U64 ws) (h : Held w es ws cs) where
-    pub commit-held : (wide inserts removes : ℕ) (items : List ℕ) → Bytes items
-        → let s = commitSaid w es ws cs wide inserts removes items in Held (left 0 s) (left 1 s) (left 2 s) (left 3 s)
-    unfolding commitSaid committedSaid deltaCall laidOut laid
-    commit-held wide inserts removes items b =
-        let x = deltaCall (nurseryOf w) es ws cs (flag wide) inserts removes items in
-        subst (λ s. Held (left 0 s) (left 1 s) (left 2 s) (left 3 s)) (over-nursery w _ _ (h .0))
-        (words-held (x .result .nursery) (x .entries) (x .waiting) (x .cells) (go outcome refl))
-      where
-        outcome : Outcome State
-        outcome = onState (nurseryOf w) es ws cs (λ s. orRefuse Broken (deltaOf (lengthWidth (flag wide)) inserts removes items) >>= applyDelta (roomOf es ws cs) s)
+-- whatever the answer, where the slices' items are words and bytes
+module _ (w es ws cs : List ℕ) (u : U64 es) (v : U64 ws) (h : Held w es ws cs) where
+  pub commit-held : (wide inserts removes : ℕ) (items : List ℕ) → Bytes items
+      → let s = commitSaid w es ws cs wide inserts removes items in Held (left 0 s) (left 1 s) (left 2 s) (left 3 s)
+  unfolding commitSaid committedSaid deltaCall laidOut laid
+  commit-held wide inserts removes items b =
+      let x = deltaCall (nurseryOf w) es ws cs (flag wide) inserts removes items in
+      words-held (x .result .nursery) (x .entries) (x .waiting) (x .cells) (go outcome refl)
+    where
+      outcome : Outcome State
+      outcome = onState (nurseryOf w) es ws cs (λ s. orRefuse Broken (deltaOf (lengthWidth (flag wide)) inserts removes items) >>= applyDelta (roomOf es ws cs) s)
 
-        go : (o : Outcome State) → outcome ≡ o → let x = laidOut (nurseryOf w) es ws cs o in holds (x .result .nursery) (x .entries) (x .waiting) (x .cells) ≡ true
-        go (refused q) e = h .1
-        go (taken t) e = rw e at (delta-holds (nurseryOf w) es ws cs u v (h .1) (flag wide) inserts removes items b (rw e))
+      go : (o : Outcome State) → outcome ≡ o → let x = laidOut (nurseryOf w) es ws cs o in holds (x .result .nursery) (x .entries) (x .waiting) (x .cells) ≡ true
+      go (refused q) e = h
+      go (taken t) e = rw e at (delta-holds (nurseryOf w) es ws cs u v h (flag wide) inserts removes items b (rw e))
 
-    pub drain-held : (round : ℕ) (out : List ℕ) → let s = drainSaid w es ws cs round out in Held (left 0 s) es (left 1 s) cs
-    unfolding drainSaid drainedSaid drainCall drainedOut
-    drain-held round out =
-        let x = drainCall promotionDelay (nurseryOf w) es ws cs round out in
-        subst (λ s. Held (left 0 s) es (left 1 s) cs) (over-nursery w _ _ (h .0)) (words-held (x .result .nursery) es (x .waiting) cs (go outcome refl))
-      where
-        outcome : Outcome (List ℕ)
-        outcome = fitting (length out) (onState (nurseryOf w) es ws cs (λ s. taken (drainBytes promotionDelay round s)))
+  pub drain-held : (round : ℕ) (out : List ℕ) → let s = drainSaid w es ws cs round out in Held (left 0 s) es (left 1 s) cs
+  unfolding drainSaid drainedSaid drainCall drainedOut
+  drain-held round out =
+      let x = drainCall promotionDelay (nurseryOf w) es ws cs round out in
+      words-held (x .result .nursery) es (x .waiting) cs (go outcome refl)
+    where
+      outcome : Outcome (List ℕ)
+      outcome = fitting (length out) (onState (nurseryOf w) es ws cs (λ s. taken (drainBytes promotionDelay round s)))
 
-        go : (o : Outcome (List ℕ)) → outcome ≡ o
-            → let x = drainedOut (nurseryOf w) ws out o (drained promotionDelay round (stateOf (nurseryOf w) es ws cs)) in holds (x .result .nursery) es (x .waiting) cs ≡ true
-        go (refused q) e = h .1
-        go (taken bs) e = rw e at (drain-holds (nurseryOf w) es ws cs u v (h .1) promotionDelay round out (rw e))
+      go : (o : Outcome (List ℕ)) → outcome ≡ o
+          → let x = drainedOut (nurseryOf w) ws out o (drained promotionDelay round (stateOf (nurseryOf w) es ws cs)) in holds (x .result .nursery) es (x .waiting) cs ≡ true
+      go (refused q) e = h
+      go (taken bs) e = rw e at (drain-holds (nurseryOf w) es ws cs u v h promotionDelay round out (rw e))

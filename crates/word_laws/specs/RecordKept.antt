@@ -1,15 +1,13 @@
 -- The promises of include/selvaigo.h for records and journals. A refused call on a record leaves zeros for its values and changes no slice. What a
--- journal's reading can end with: 20 only where the nursery's record isn't lent in 3 words. And what it leaves may be lent to the held forms.
+-- journal's reading can end with: never 20. And what it leaves may be lent to the held forms.
 -- Assumes nothing.
 use Prim.Native.Nat.{ℕ, zero, suc, _+_, _-_, _^_}
-use mathlib.Core.Path.{_≡_, refl, ap, subst}
-use mathlib.Core.Logic.{_↔_}
+use mathlib.Core.Path.{_≡_, refl, ap}
 use mathlib.Core.Bool.{Bool, true, false, not, false≢true}
 use mathlib.Core.Option.{Option, none, some}
 use mathlib.Core.List.{List, [], _∷_}
 use lib.ListN.{length, take, drop}
 use lib.Dec.{ltb, leb}
-use borrow.Author.Tests.{eq-eqb, ne-eqb}
 use Rattle.base.specs.Logic.{any, elem, zeros, eqbList}
 use Rattle.base.specs.Bytes.{unle}
 use Rattle.base.specs.Answers.{Outcome, refused, taken, _>>=_, _>>_, refuseIf, orRefuse, either, numberOf, answerNumber}
@@ -29,8 +27,7 @@ use Rattle.format.specs.Calls.{noStats, encodedOut, encodeCall, decodedOf, deco
 use Rattle.journal.specs.Journal.{readFrom, readJournal, readCall}
 use Rattle.journal_laws.specs.LoadLaws.{journal-loaded}
 use Rattle.journal_read.specs.RecordLaws.{U8, u8-bytes}
-use Rattle.state_words.specs.WordLaws.{over-nursery}
-use Rattle.state_words.specs.Words.{brokenSaid, overNursery, Unchanged, left}
+use Rattle.state_words.specs.Words.{Unchanged, left}
 use Rattle.word_calls.specs.NurserySaid.{flag}
 use Rattle.word_laws.specs.NurseryKept.{Held, words-held}
 use Rattle.word_calls.specs.RecordSaid.{encodedSaid, encodeSaid, decodedSaid, decodeSaid, readInSaid, journalSaid}
@@ -106,30 +103,21 @@ module _ (hash : List ℕ → List ℕ) where
         decoded later (refused q) e = rw e (decode-ends (b ∷ bs) q e)
         decoded later (taken d) e = done later d e (applyDelta m s (d .delta)) refl
 
--- ---- over words: 20 exactly where the nursery's record isn't lent in 3 of them
-module _ (bs w es ws cs : List ℕ) where
-  pub journal-ends : length w ≡ 3 → elem (journalSaid bs w es ws cs .answer) endNumbers ≡ true
-  unfolding journalSaid overNursery readInSaid readCall readJournal
-  journal-ends e = rw (eq-eqb (length w) 3 e) (reading-ends blake3.hash (roomOf es ws cs) empty 0 0 0 bs)
+-- ---- over words
+pub journal-ends : (bs es ws cs : List ℕ) → elem (journalSaid bs es ws cs .answer) endNumbers ≡ true
+unfolding journalSaid readInSaid readCall readJournal
+journal-ends bs es ws cs = reading-ends blake3.hash (roomOf es ws cs) empty 0 0 0 bs
 
-  pub journal-broken : (journalSaid bs w es ws cs .answer ≡ 20) ↔ (length w ≡ 3 → ⊥)
-  unfolding journalSaid overNursery any
-  journal-broken = (
-    λ e h. false≢true (rw e at (journal-ends h)),
-    λ n. rw (ne-eqb (length w) 3 n),
-  )
-
-  pub journal-unchanged : (length w ≡ 3 → ⊥) → journalSaid bs w es ws cs ≡ brokenSaid ((0 ∷ 0 ∷ []) ∷ []) (w ∷ es ∷ ws ∷ cs ∷ [])
-  unfolding journalSaid overNursery
-  journal-unchanged n = rw (ne-eqb (length w) 3 n)
+-- so it never shares its number with a call that is refused whole
+pub journal-never-broken : (bs es ws cs : List ℕ) → journalSaid bs es ws cs .answer ≡ 20 → ⊥
+unfolding any
+journal-never-broken bs es ws cs e = false≢true (rw e at (journal-ends bs es ws cs))
 
 -- ---- what is left may be lent to the held forms, whatever ended the reading
-pub journal-held : (bs w es ws cs : List ℕ) → U8 bs → length w ≡ 3
-    → let s = journalSaid bs w es ws cs in Held (left 0 s) (left 1 s) (left 2 s) (left 3 s)
+pub journal-held : (bs es ws cs : List ℕ) → U8 bs → let s = journalSaid bs es ws cs in Held (left 0 s) (left 1 s) (left 2 s) (left 3 s)
 unfolding journalSaid readInSaid readCall laid roomOf
-journal-held bs w es ws cs u e =
+journal-held bs es ws cs u =
     let t = readJournal blake3.hash (roomOf es ws cs) bs .state in
     let l = journal-loaded blake3.hash (roomOf es ws cs) bs (u8-bytes bs u) in
-    subst (λ s. Held (left 0 s) (left 1 s) (left 2 s) (left 3 s)) (over-nursery w _ _ e)
-    (words-held (recordOf t) (entriesTable (length es) t) (waitingTable (length ws) t) (cellsTable (length cs) t)
-    (holds-laid t (length es) (length ws) (length cs) (l .well) (l .room .rows-fit) (l .room .bytes-fit)))
+    words-held (recordOf t) (entriesTable (length es) t) (waitingTable (length ws) t) (cellsTable (length cs) t)
+    (holds-laid t (length es) (length ws) (length cs) (l .well) (l .room .rows-fit) (l .room .bytes-fit))

@@ -8,7 +8,7 @@ counters-of-requires : tie.Need-counters-of-requires
 counters-of-requires c κs = search needs
 
 apply-batch-held-requires : tie.Need-apply-batch-held-requires
-apply-batch-held-requires c κs = rw (c .before .counters-of .ensures) (c .before .before .before .before .before .before .pre .1)
+apply-batch-held-requires c κs = rw (c .before .counters-of .ensures) (c .before .before .before .before .before .pre)
 
 put-applied-requires : tie.Need-put-applied-requires
 put-applied-requires c κs = search needs
@@ -16,14 +16,10 @@ put-applied-requires c κs = search needs
 same-length : tie.Need-same-length
 same-length c = search needs
 
-same-length-2 : tie.Need-same-length-2
-same-length-2 c = search needs
-
 returns : tie.Need-returns
 returns c =
-    let s = c .before .before .before .before .before .before .before .before .before .before .before .before .before in
-    let a = s .args in
-    batch-said (a .state .now) (s .pre .0) (c .before .before .before .before .before .before .before .before .counters-of .ensures) (a .counts .now) (a .batch .now) (c .before .before .before .before .before .before .apply-batch-held .ensures) (c .before .before .put-applied .ensures)
+    let a = c .before .before .before .before .before .before .before .before .before .before .args in
+    batch-said (a .state .now) (c .before .before .before .before .before .before .counters-of .ensures) (a .counts .now) (a .batch .now) (c .before .before .before .before .apply-batch-held .ensures) (c .put-applied .ensures)
 
 pub selvaigo-apply-batch-held-spec : {M : Type 1} → statement M
 selvaigo-apply-batch-held-spec =
@@ -33,5 +29,4 @@ selvaigo-apply-batch-held-spec =
     apply-batch-held-requires
     put-applied-requires
     same-length
-    same-length-2
     returns)

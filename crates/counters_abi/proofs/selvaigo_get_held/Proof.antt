@@ -8,16 +8,15 @@ counters-of-requires : tie.Need-counters-of-requires
 counters-of-requires c κs = search needs
 
 get-held-requires : tie.Need-get-held-requires
-get-held-requires c κs = rw (c .counters-of .ensures) (c .before .before .before .pre .1)
+get-held-requires c κs = rw (c .counters-of .ensures) (c .before .before .pre)
 
 put-got-requires : tie.Need-put-got-requires
 put-got-requires c κs = search needs
 
 returns : tie.Need-returns
 returns c =
-    let s = c .before .before .before .before .before .before in
-    let a = s .args in
-    get-said (a .state .now) (s .pre .0) (c .before .before .before .counters-of .ensures) (a .counts .now) (a .idx) (c .before .before .get-held .ensures) (c .put-got .ensures)
+    let a = c .before .before .before .before .before .args in
+    get-said (a .state .now) (c .before .before .before .counters-of .ensures) (a .counts .now) (a .idx) (c .before .before .get-held .ensures) (c .put-got .ensures)
 
 pub selvaigo-get-held-spec : {M : Type 1} → statement M
 selvaigo-get-held-spec =

@@ -1,22 +1,15 @@
--- `drain_abi::selvaigo_drain_promotable_held` meets its contract: the call under it, over words. Assumes nothing.
-use lib.ListN.{length}
-use borrow.Author.Tests.{eq-eqb}
-use Rattle.state_words.specs.Words.{overNursery}
+-- `drain_abi::selvaigo_drain_promotable_held` meets its contract: the call under it where a state is held, over words. Assumes nothing.
+use borrow.Author.Needs.{needs}
 use Rattle.word_calls.specs.NurserySaid.{drainSaid}
 use Rattle.word_calls.specs.NurserySaidLaws.{drained-said}
-use borrow.Author.Needs.{needs}
-use Rattle.drain_abi.proofs.selvaigo_drain_promotable_held.Statement.{
-  statement,
-}
+use Rattle.drain_abi.proofs.selvaigo_drain_promotable_held.Statement.{statement}
 use Rattle.drain_abi.proofs.selvaigo_drain_promotable_held.Tie as tie
 
 nursery-of-requires : tie.Need-nursery-of-requires
 nursery-of-requires c κs = search needs
 
 drain-promotable-held-requires : tie.Need-drain-promotable-held-requires
-drain-promotable-held-requires c κs =
-    let p = c .before .before .before .before .before .before .before .before .before .pre in
-    rw (c .before .before .nursery-of .ensures) (p .1)
+drain-promotable-held-requires c κs = rw (c .before .before .nursery-of .ensures) (c .before .before .before .before .before .before .before .before .pre)
 
 put-drained-requires : tie.Need-put-drained-requires
 put-drained-requires c κs = search needs
@@ -27,14 +20,9 @@ same-length c = search needs
 same-length-2 : tie.Need-same-length-2
 same-length-2 c = search needs
 
-same-length-3 : tie.Need-same-length-3
-same-length-3 c = search needs
-
 returns : tie.Need-returns
-unfolding drainSaid overNursery
-returns c =
-    let at = c .before .before .before .before .before .before .before .before .before .before .before .before .before .before .before .before .before .before .before in
-    rw (eq-eqb (length (at .args .nursery .now)) 3 (at .pre .0)) (drained-said (rw (c .before .before .before .before .before .before .before .before .before .before .before .before .nursery-of .ensures) at (c .before .before .before .before .before .before .before .before .before .drain-promotable-held .ensures)) (c .before .before .put-drained .ensures))
+unfolding drainSaid
+returns c = drained-said (rw (c .before .before .before .before .before .before .before .before .before .before .nursery-of .ensures) at (c .before .before .before .before .before .before .before .drain-promotable-held .ensures)) (c .put-drained .ensures)
 
 pub selvaigo-drain-promotable-held-spec : {M : Type 1} → statement M
 selvaigo-drain-promotable-held-spec =
@@ -45,5 +33,4 @@ selvaigo-drain-promotable-held-spec =
     put-drained-requires
     same-length
     same-length-2
-    same-length-3
     returns)

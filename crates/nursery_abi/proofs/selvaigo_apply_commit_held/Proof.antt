@@ -1,10 +1,7 @@
--- `nursery_abi::selvaigo_apply_commit_held` meets its contract: the call under it, over words. Assumes nothing.
-use lib.ListN.{length}
-use borrow.Author.Tests.{eq-eqb}
-use Rattle.state_words.specs.Words.{overNursery}
+-- `nursery_abi::selvaigo_apply_commit_held` meets its contract: the call under it where a state is held, over words. Assumes nothing.
+use borrow.Author.Needs.{needs}
 use Rattle.word_calls.specs.NurserySaid.{commitSaid}
 use Rattle.word_calls.specs.NurserySaidLaws.{committed-said}
-use borrow.Author.Needs.{needs}
 use Rattle.nursery_abi.proofs.selvaigo_apply_commit_held.Statement.{statement}
 use Rattle.nursery_abi.proofs.selvaigo_apply_commit_held.Tie as tie
 
@@ -12,9 +9,7 @@ nursery-of-requires : tie.Need-nursery-of-requires
 nursery-of-requires c κs = search needs
 
 apply-commit-held-requires : tie.Need-apply-commit-held-requires
-apply-commit-held-requires c κs =
-    let p = c .before .before .before .before .before .before .before .before .before .before .pre in
-    rw (c .before .before .before .nursery-of .ensures) (p .1)
+apply-commit-held-requires c κs = rw (c .before .before .before .nursery-of .ensures) (c .before .before .before .before .before .before .before .before .before .pre)
 
 put-committed-requires : tie.Need-put-committed-requires
 put-committed-requires c κs = search needs
@@ -28,14 +23,9 @@ same-length-2 c = search needs
 same-length-3 : tie.Need-same-length-3
 same-length-3 c = search needs
 
-same-length-4 : tie.Need-same-length-4
-same-length-4 c = search needs
-
 returns : tie.Need-returns
-unfolding commitSaid overNursery
-returns c =
-    let at = c .before .before .before .before .before .before .before .before .before .before .before .before .before .before .before .before .before .before .before .before .before in
-    rw (eq-eqb (length (at .args .nursery .now)) 3 (at .pre .0)) (committed-said (rw (c .before .before .before .before .before .before .before .before .before .before .before .before .before .before .nursery-of .ensures) at (c .before .before .before .before .before .before .before .before .before .before .apply-commit-held .ensures)) (c .before .before .put-committed .ensures))
+unfolding commitSaid
+returns c = committed-said (rw (c .before .before .before .before .before .before .before .before .before .before .before .before .nursery-of .ensures) at (c .before .before .before .before .before .before .before .before .apply-commit-held .ensures)) (c .put-committed .ensures)
 
 pub selvaigo-apply-commit-held-spec : {M : Type 1} → statement M
 selvaigo-apply-commit-held-spec =
@@ -47,5 +37,4 @@ selvaigo-apply-commit-held-spec =
     same-length
     same-length-2
     same-length-3
-    same-length-4
     returns)

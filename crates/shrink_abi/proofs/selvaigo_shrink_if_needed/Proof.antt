@@ -1,17 +1,8 @@
 -- `shrink_abi::selvaigo_shrink_if_needed` meets its contract: the call under it, over words. Assumes nothing.
 use borrow.Author.Needs.{needs}
-use Rattle.word_calls.specs.CountersSaidLaws.{shrink-broken, shrink-said}
+use Rattle.word_calls.specs.CountersSaidLaws.{shrink-said}
 use Rattle.shrink_abi.proofs.selvaigo_shrink_if_needed.Statement.{statement}
 use Rattle.shrink_abi.proofs.selvaigo_shrink_if_needed.Tie as tie
-
-broken-requires : tie.Need-broken-requires
-broken-requires c κs = search needs
-
-returns : tie.Need-returns
-returns c =
-    let s = c .before .before .before .before .before in
-    let a = s .args in
-    shrink-broken (a .state .now) (c .before .before .if1 .taken) (c .broken .ensures) (a .counts .now) (a .bytes-saved)
 
 counters-of-requires : tie.Need-counters-of-requires
 counters-of-requires c κs = search needs
@@ -22,23 +13,11 @@ shrink-if-needed-requires c κs = search needs
 put-shrunk-requires : tie.Need-put-shrunk-requires
 put-shrunk-requires c κs = search needs
 
-same-length : tie.Need-same-length
-same-length c = search needs
-
-returns-2 : tie.Need-returns-2
-returns-2 c =
-    let s = c .before .before .before .before .before .before .before .before .before .before .before in
-    let a = s .args in
-    shrink-said (a .state .now) (c .before .before .before .before .before .before .before .before .if1 .left) (c .before .before .before .before .before .before .counters-of .ensures) (a .counts .now) (a .bytes-saved) (c .before .before .before .before .before .shrink-if-needed .ensures) (c .before .before .put-shrunk .ensures)
+returns : tie.Need-returns
+returns c =
+    let a = c .before .before .before .before .before .before .before .args in
+    shrink-said (a .state .now) (c .before .before .before .before .counters-of .ensures) (a .counts .now) (a .bytes-saved) (c .before .before .before .shrink-if-needed .ensures) (c .put-shrunk .ensures)
 
 pub selvaigo-shrink-if-needed-spec : {M : Type 1} → statement M
 selvaigo-shrink-if-needed-spec =
-    tie.close
-    (tie.spec
-    broken-requires
-    returns
-    counters-of-requires
-    shrink-if-needed-requires
-    put-shrunk-requires
-    same-length
-    returns-2)
+    tie.close (tie.spec counters-of-requires shrink-if-needed-requires put-shrunk-requires returns)

@@ -8,21 +8,16 @@ counters-of-requires : tie.Need-counters-of-requires
 counters-of-requires c κs = search needs
 
 shrink-held-requires : tie.Need-shrink-held-requires
-shrink-held-requires c κs = rw (c .counters-of .ensures) (c .before .before .before .before .pre .1)
+shrink-held-requires c κs = rw (c .counters-of .ensures) (c .before .before .before .pre)
 
 put-shrunk-requires : tie.Need-put-shrunk-requires
 put-shrunk-requires c κs = search needs
 
-same-length : tie.Need-same-length
-same-length c = search needs
-
 returns : tie.Need-returns
 returns c =
-    let s = c .before .before .before .before .before .before .before .before .before .before in
-    let a = s .args in
-    shrink-said (a .state .now) (s .pre .0) (c .before .before .before .before .before .before .counters-of .ensures) (a .counts .now) (a .bytes-saved) (c .before .before .before .before .before .shrink-held .ensures) (c .before .before .put-shrunk .ensures)
+    let a = c .before .before .before .before .before .before .before .args in
+    shrink-said (a .state .now) (c .before .before .before .before .counters-of .ensures) (a .counts .now) (a .bytes-saved) (c .before .before .before .shrink-held .ensures) (c .put-shrunk .ensures)
 
 pub selvaigo-shrink-if-needed-held-spec : {M : Type 1} → statement M
 selvaigo-shrink-if-needed-held-spec =
-    tie.close
-    (tie.spec counters-of-requires shrink-held-requires put-shrunk-requires same-length returns)
+    tie.close (tie.spec counters-of-requires shrink-held-requires put-shrunk-requires returns)

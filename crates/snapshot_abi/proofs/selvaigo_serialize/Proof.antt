@@ -1,17 +1,8 @@
 -- `snapshot_abi::selvaigo_serialize` meets its contract: the call under it, over words. Assumes nothing.
 use borrow.Author.Needs.{needs}
-use Rattle.word_calls.specs.CountersSaidLaws.{serialize-broken, serialize-said}
+use Rattle.word_calls.specs.CountersSaidLaws.{serialize-said}
 use Rattle.snapshot_abi.proofs.selvaigo_serialize.Statement.{statement}
 use Rattle.snapshot_abi.proofs.selvaigo_serialize.Tie as tie
-
-broken-requires : tie.Need-broken-requires
-broken-requires c κs = search needs
-
-returns : tie.Need-returns
-returns c =
-    let s = c .before .before .before .before .before .before in
-    let a = s .args in
-    serialize-broken (a .state .now) (c .before .before .if1 .taken) (c .broken .ensures) (a .counts .now) (a .out .now)
 
 counters-of-requires : tie.Need-counters-of-requires
 counters-of-requires c κs = search needs
@@ -25,20 +16,12 @@ put-wrote-requires c κs = search needs
 same-length : tie.Need-same-length
 same-length c = search needs
 
-returns-2 : tie.Need-returns-2
-returns-2 c =
-    let s = c .before .before .before .before .before .before .before .before .before .before .before in
-    let a = s .args in
-    serialize-said (a .state .now) (c .before .before .before .before .before .before .before .if1 .left) (c .before .before .before .before .before .before .counters-of .ensures) (a .counts .now) (a .out .now) (c .before .before .before .before .serialize .ensures) (c .put-wrote .ensures)
+returns : tie.Need-returns
+returns c =
+    let a = c .before .before .before .before .before .before .before .before .before .args in
+    serialize-said (a .state .now) (c .before .before .before .before .before .before .counters-of .ensures) (a .counts .now) (a .out .now) (c .before .before .before .before .serialize .ensures) (c .put-wrote .ensures)
 
 pub selvaigo-serialize-spec : {M : Type 1} → statement M
 selvaigo-serialize-spec =
     tie.close
-    (tie.spec
-    broken-requires
-    returns
-    counters-of-requires
-    serialize-requires
-    put-wrote-requires
-    same-length
-    returns-2)
+    (tie.spec counters-of-requires serialize-requires put-wrote-requires same-length returns)

@@ -8,7 +8,7 @@ counters-of-requires : tie.Need-counters-of-requires
 counters-of-requires c κs = search needs
 
 serialize-held-requires : tie.Need-serialize-held-requires
-serialize-held-requires c κs = rw (c .before .counters-of .ensures) (c .before .before .before .before .before .pre .1)
+serialize-held-requires c κs = rw (c .before .counters-of .ensures) (c .before .before .before .before .pre)
 
 put-wrote-requires : tie.Need-put-wrote-requires
 put-wrote-requires c κs = search needs
@@ -18,9 +18,8 @@ same-length c = search needs
 
 returns : tie.Need-returns
 returns c =
-    let s = c .before .before .before .before .before .before .before .before .before .before in
-    let a = s .args in
-    serialize-said (a .state .now) (s .pre .0) (c .before .before .before .before .before .before .counters-of .ensures) (a .counts .now) (a .out .now) (c .before .before .before .before .serialize-held .ensures) (c .put-wrote .ensures)
+    let a = c .before .before .before .before .before .before .before .before .before .args in
+    serialize-said (a .state .now) (c .before .before .before .before .before .before .counters-of .ensures) (a .counts .now) (a .out .now) (c .before .before .before .before .serialize-held .ensures) (c .put-wrote .ensures)
 
 pub selvaigo-serialize-held-spec : {M : Type 1} → statement M
 selvaigo-serialize-held-spec =

@@ -1,17 +1,8 @@
 -- `snapshot_abi::selvaigo_serialized_len` meets its contract: the call under it, over words. Assumes nothing.
 use borrow.Author.Needs.{needs}
-use Rattle.word_calls.specs.CountersSaidLaws.{length-broken, length-said}
+use Rattle.word_calls.specs.CountersSaidLaws.{length-said}
 use Rattle.snapshot_abi.proofs.selvaigo_serialized_len.Statement.{statement}
 use Rattle.snapshot_abi.proofs.selvaigo_serialized_len.Tie as tie
-
-broken-requires : tie.Need-broken-requires
-broken-requires c κs = search needs
-
-returns : tie.Need-returns
-returns c =
-    let s = c .before .before .before .before .before in
-    let a = s .args in
-    length-broken (a .state .now) (c .before .before .if1 .taken) (c .broken .ensures) (a .counts .now)
 
 counters-of-requires : tie.Need-counters-of-requires
 counters-of-requires c κs = search needs
@@ -22,19 +13,11 @@ serialized-len-requires c κs = search needs
 put-wrote-requires : tie.Need-put-wrote-requires
 put-wrote-requires c κs = search needs
 
-returns-2 : tie.Need-returns-2
-returns-2 c =
-    let s = c .before .before .before .before .before .before .before in
-    let a = s .args in
-    length-said (a .state .now) (c .before .before .before .before .if1 .left) (c .before .before .before .counters-of .ensures) (a .counts .now) (c .before .before .serialized-len .ensures) (c .put-wrote .ensures)
+returns : tie.Need-returns
+returns c =
+    let a = c .before .before .before .before .before .args in
+    length-said (a .state .now) (c .before .before .before .counters-of .ensures) (a .counts .now) (c .before .before .serialized-len .ensures) (c .put-wrote .ensures)
 
 pub selvaigo-serialized-len-spec : {M : Type 1} → statement M
 selvaigo-serialized-len-spec =
-    tie.close
-    (tie.spec
-    broken-requires
-    returns
-    counters-of-requires
-    serialized-len-requires
-    put-wrote-requires
-    returns-2)
+    tie.close (tie.spec counters-of-requires serialized-len-requires put-wrote-requires returns)
