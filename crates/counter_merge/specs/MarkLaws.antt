@@ -16,8 +16,8 @@ use Rattle.rows.specs.RowLaws.{keep-others}
 use Rattle.counters.specs.declared.CounterTransition.{CounterTransition}
 use Rattle.counters.specs.Counts.{Entry, rowOf, setCount}
 use Rattle.counters.specs.Batch.{changes, countsAfter}
-use Rattle.counters.specs.Steps.{leavesRow, some, applyOne}
-use Rattle.counters.specs.ApplyLaws.{turn, some-none}
+use Rattle.counters.specs.Steps.{leavesRow, passOf, applyOne}
+use Rattle.counters.specs.ApplyLaws.{turn, pass-none}
 use Rattle.counter_merge.specs.Passes.{stands, standing, recount, replaced, drops, markOne, marked, hits, anyHit}
 
 abbrev index : Entry → ℕ
@@ -139,12 +139,12 @@ standing-ascends : (es : List Entry) → Ascends es → Ascends (standing es)
 unfolding standing
 standing-ascends es a = ascending-keep index stands 0 es a
 
-pub standing-marked : (xs : List CounterTransition) (es : List Entry) → Ascends es → standing (marked xs es) ≡ countsAfter (some false xs) (standing es)
+pub standing-marked : (xs : List CounterTransition) (es : List Entry) → Ascends es → standing (marked xs es) ≡ countsAfter (passOf false xs) (standing es)
 unfolding marked fold
-standing-marked [] es a = sym (some-none false (standing es))
+standing-marked [] es a = sym (pass-none false (standing es))
 standing-marked (x ∷ xs) es a =
     standing-marked xs (markOne x es) (ap (ascendingFrom 0) (mark-indices x es) ∙ a)
-    ∙ ap (countsAfter (some false xs)) (standing-one x es a)
+    ∙ ap (countsAfter (passOf false xs)) (standing-one x es a)
     ∙ sym (turn false x xs (standing es) (standing-ascends es a))
 
 -- ---- where no transition names a row, nothing is marked

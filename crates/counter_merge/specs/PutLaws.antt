@@ -18,8 +18,8 @@ use Rattle.counters.specs.declared.CounterTransition.{CounterTransition}
 use Rattle.counters.specs.Counts.{Entry, rowOf, setCount}
 use Rattle.counters.specs.CountLaws.{length-rowOf}
 use Rattle.counters.specs.Batch.{changes, countsAfter}
-use Rattle.counters.specs.Steps.{leavesRow, some, applyOne}
-use Rattle.counters.specs.ApplyLaws.{turn, some-none, set-ascends}
+use Rattle.counters.specs.Steps.{leavesRow, passOf, applyOne}
+use Rattle.counters.specs.ApplyLaws.{turn, pass-none, set-ascends}
 use Rattle.counter_merge.specs.Passes.{replaced, lands, frontOne, fronts, isNew, newRows, backOne, backs, joined, comes}
 use Rattle.counter_merge.specs.MarkLaws.{replaced-indices, replaced-none, set-replaced-rows}
 use Rattle.counter_merge.specs.JoinLaws.{join-past, join-into, join-none}
@@ -139,18 +139,18 @@ one-ascends-too x es a = go (changes x && leavesRow true x)
     go false = a
 
 joined-all : (ks : List ℕ) (xs : List CounterTransition) (ns es : List Entry) → Ascends ns → Ascends es → map index es ≡ ks → all (comes ks) ns ≡ true
-    → Ascends (joined ns es) → joined (backs ks xs ns) (fronts xs es) ≡ countsAfter (some true xs) (joined ns es)
+    → Ascends (joined ns es) → joined (backs ks xs ns) (fronts xs es) ≡ countsAfter (passOf true xs) (joined ns es)
 unfolding backs fronts fold
-joined-all ks [] ns es a b q c j = sym (some-none true (joined ns es))
+joined-all ks [] ns es a b q c j = sym (pass-none true (joined ns es))
 joined-all ks (x ∷ xs) ns es a b q c j =
     let one = join-one x ks ns es a b q c in
     joined-all ks xs (backOne ks x ns) (frontOne x es) (back-ascends x ks ns a) (ap (ascendingFrom 0) (front-indices x es) ∙ b) (front-indices x es ∙ q) (back-comes x ks ns c)
     (ap (λ (l : List Entry). ascendingFrom 0 (map index l)) one ∙ one-ascends-too x (joined ns es) j)
-    ∙ ap (countsAfter (some true xs)) one ∙ sym (turn true x xs (joined ns es) j)
+    ∙ ap (countsAfter (passOf true xs)) one ∙ sym (turn true x xs (joined ns es) j)
 
 pub joined-after : (xs : List CounterTransition) (es : List Entry) → Ascends es
-    → joined (backs (map index es) xs []) (fronts xs es) ≡ countsAfter (some true xs) es
+    → joined (backs (map index es) xs []) (fronts xs es) ≡ countsAfter (passOf true xs) es
 unfolding all ascendingFrom
 joined-after xs es a =
     joined-all (map index es) xs [] es refl a refl refl (ap (λ (l : List Entry). ascendingFrom 0 (map index l)) (join-none es) ∙ a)
-    ∙ ap (countsAfter (some true xs)) (join-none es)
+    ∙ ap (countsAfter (passOf true xs)) (join-none es)

@@ -13,7 +13,7 @@ ghost use Rattle.counters.specs.Maintenance.{grownSets, maintained};
 ghost use Rattle.counters.specs.Layout.{countRow};
 ghost use Rattle.counters.specs.Batch.{changes, kept, countsAfter};
 ghost use Rattle.counters.specs.Held.{InOrder};
-ghost use Rattle.counters.specs.Steps.{transition, transitions, ofKind, leavesRow, some, applyOne};
+ghost use Rattle.counters.specs.Steps.{transition, transitions, ofKind, leavesRow, passOf, applyOne};
 
 // Whether a transition is of a kind.
 fn is_kind(kind: Kind, idx: u64, old: u64, new: u64) -> bool
@@ -98,8 +98,8 @@ pub fn apply_one(t: &mut [u64], n: usize, idx: u64, old: u64, new: u64, many: bo
 // Applies the kept transitions that leave a row (many), or those that leave none. Returns how many rows there are then.
 pub fn apply_some(t: &mut [u64], n: usize, b: &[u64], many: bool) -> usize
     requires { ⌜ InOrder n (now t) ⌝ }
-    requires { ⌜ length (countsAfter (some many (transitions (now b))) (rowsOf countRow n (now t))) * 2 ≤ length (now t) ⌝ }
-    ensures { λ r. ⌜ (r ≡ length (countsAfter (some many (transitions (now (b .entry)))) (rowsOf countRow n (now (t .entry))))) × (now (t .exit) ≡ rows-table.tableOf countRow (length (now (t .entry))) (countsAfter (some many (transitions (now (b .entry)))) (rowsOf countRow n (now (t .entry))))) ⌝ }
+    requires { ⌜ length (countsAfter (passOf many (transitions (now b))) (rowsOf countRow n (now t))) * 2 ≤ length (now t) ⌝ }
+    ensures { λ r. ⌜ (r ≡ length (countsAfter (passOf many (transitions (now (b .entry)))) (rowsOf countRow n (now (t .entry))))) × (now (t .exit) ≡ rows-table.tableOf countRow (length (now (t .entry))) (countsAfter (passOf many (transitions (now (b .entry)))) (rowsOf countRow n (now (t .entry))))) ⌝ }
 {
     let m = b.len() / 3;
     let mut rows = n;

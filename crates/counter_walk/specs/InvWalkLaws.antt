@@ -17,7 +17,7 @@ use Rattle.counters.specs.Batch.{kept, named, births, deaths, countsAfter, stat
 use Rattle.counters.specs.Layout.{countRow, holds, recordOf, tableOf, stateOf}
 use Rattle.counters.specs.Held.{Judged}
 use Rattle.counters.specs.Calls.{effect, batchCall}
-use Rattle.counters.specs.Steps.{some}
+use Rattle.counters.specs.Steps.{passOf}
 use Rattle.counters.specs.KeptLaws.{first-fits}
 use Rattle.counter_walk.specs.declared.Phase.{Phase}
 use Rattle.counter_walk.specs.declared.Phase.the-variants.{Look, Again, Free, Store, End}
@@ -91,7 +91,7 @@ almostAfter c bs =
 
 -- the counts that a pass leads to
 abbrev pub goal : Bool → Counters → List ℕ → List CounterTransition → List Entry
-goal false c t₀ bs = countsAfter (some false bs) (entries c t₀)
+goal false c t₀ bs = countsAfter (passOf false bs) (entries c t₀)
 goal true c t₀ bs = countsAfter (kept bs) (entries c t₀)
 
 -- record `at` is to be applied: in the second pass (many), or in the first

@@ -15,15 +15,15 @@ use Rattle.counters.specs.Counts.{Entry}
 use Rattle.counters.specs.Layout.{countRow}
 use Rattle.counters.specs.Batch.{countsAfter}
 use Rattle.counters.specs.Held.{InOrder}
-use Rattle.counters.specs.Steps.{transition, some, applyOne}
-use Rattle.counters.specs.ApplyLaws.{in-order-table, in-order-ascends, one-ascends, one-fits, turn, some-none}
+use Rattle.counters.specs.Steps.{transition, passOf, applyOne}
+use Rattle.counters.specs.ApplyLaws.{in-order-table, in-order-ascends, one-ascends, one-fits, turn, pass-none}
 
 -- i records of bs are seen: the table has n rows, and those that are left lead from it to es
 pub record Seen (many : Bool) (bs : List CounterTransition) (len : ℕ) (es : List Entry) (i n : ℕ) (t : List ℕ) : Type 0 where
   pub within : i ≤ length bs
   pub long : length t ≡ len
   pub order : InOrder n t
-  pub leads : countsAfter (some many (drop i bs)) (rowsOf countRow n t) ≡ es
+  pub leads : countsAfter (passOf many (drop i bs)) (rowsOf countRow n t) ≡ es
 
 module _ (many : Bool) (bs : List CounterTransition) (len : ℕ) (es : List Entry) (fits : length es * 2 ≤ len) (i n : ℕ) (t : List ℕ) (s : Seen many bs len es i n t) where
   abbrev rows : List Entry
@@ -36,8 +36,8 @@ module _ (many : Bool) (bs : List CounterTransition) (len : ℕ) (es : List Entr
     abbrev one : List Entry
     one = applyOne many x rows
 
-    from-here : countsAfter (some many (x ∷ drop (suc i) bs)) rows ≡ es
-    from-here = ap (λ ts. countsAfter (some many ts) rows) (sym (drop-cons bs i (transition 0 0 0) h)) ∙ s .leads
+    from-here : countsAfter (passOf many (x ∷ drop (suc i) bs)) rows ≡ es
+    from-here = ap (λ ts. countsAfter (passOf many ts) rows) (sym (drop-cons bs i (transition 0 0 0) h)) ∙ s .leads
 
     pub one-has-room : length one * 2 ≤ length t
     one-has-room =
@@ -57,5 +57,5 @@ module _ (many : Bool) (bs : List CounterTransition) (len : ℕ) (es : List Entr
   seen-all h =
       let e : i ≡ length bs = omega (arith, s .within) in
       let d : drop i bs ≡ [] = rw e (drop-length bs) in
-      let q : rows ≡ es = sym (some-none many rows) ∙ ap (λ ts. countsAfter (some many ts) rows) (sym d) ∙ s .leads in
+      let q : rows ≡ es = sym (pass-none many rows) ∙ ap (λ ts. countsAfter (passOf many ts) rows) (sym d) ∙ s .leads in
       rw (← q, ← s .long) (sym (length-rowsOf countRow n t), sym (table-rowsOf countRow n t (s .order .laid)))

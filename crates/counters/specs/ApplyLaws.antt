@@ -20,7 +20,7 @@ use Rattle.counters.specs.declared.CounterTransition.{CounterTransition}
 use Rattle.counters.specs.Counts.{Entry, rowOf, setCount}
 use Rattle.counters.specs.Layout.{countRow}
 use Rattle.counters.specs.Batch.{changes, kept, named, countsAfter}
-use Rattle.counters.specs.Steps.{transition, leavesRow, some, applyOne}
+use Rattle.counters.specs.Steps.{transition, leavesRow, passOf, applyOne}
 use Rattle.counters.specs.Held.{InOrder}
 use Rattle.counters.specs.RowLaws.{indices}
 use Rattle.counters.specs.SetLaws.{set-grows, set-shrinks}
@@ -92,14 +92,14 @@ after-less (x ∷ xs) es a h =
     omega (arith, set-less i m es a l, after-less xs (setCount i m es) (set-ascends i m es a) (and-right (leavesRow false x) (all (leavesRow false) xs) h))
 
 -- ---- a transition in its turn
-pub some-all : (many : Bool) (xs : List CounterTransition) → all (leavesRow many) (some many xs) ≡ true
-unfolding some
-some-all many xs = all-kept (leavesRow many) (kept xs)
+pub pass-all : (many : Bool) (xs : List CounterTransition) → all (leavesRow many) (passOf many xs) ≡ true
+unfolding passOf
+pass-all many xs = all-kept (leavesRow many) (kept xs)
 
 module _ (many : Bool) (x : CounterTransition) (xs : List CounterTransition) (es : List Entry) (a : Ascends es) where
   -- the others are applied to what it leaves
-  pub turn : countsAfter (some many (x ∷ xs)) es ≡ countsAfter (some many xs) (applyOne many x es)
-  unfolding some kept keep countsAfter fold applyOne
+  pub turn : countsAfter (passOf many (x ∷ xs)) es ≡ countsAfter (passOf many xs) (applyOne many x es)
+  unfolding passOf kept keep countsAfter fold applyOne
   turn = go (changes x)
     where
       go₂ : (b : Bool) → countsAfter (pick b (x ∷ keep (leavesRow many) (keep changes xs)) (keep (leavesRow many) (keep changes xs))) es
@@ -121,21 +121,21 @@ module _ (many : Bool) (x : CounterTransition) (xs : List CounterTransition) (es
       go false = a
 
   -- it fits where the counts before and after all of them do
-  pub one-fits : (len : ℕ) → length es * 2 ≤ len → length (countsAfter (some many (x ∷ xs)) es) * 2 ≤ len → length (applyOne many x es) * 2 ≤ len
+  pub one-fits : (len : ℕ) → length es * 2 ≤ len → length (countsAfter (passOf many (x ∷ xs)) es) * 2 ≤ len → length (applyOne many x es) * 2 ≤ len
   unfolding applyOne
   one-fits len h k = go (changes x && leavesRow many x) refl
     where
       set : List Entry
       set = setCount (x .idx .0) (x .«new_raw») es
 
-      fits : (m : Bool) → leavesRow m x ≡ true → length (countsAfter (some m xs) set) * 2 ≤ len → length set * 2 ≤ len
-      fits true l k = omega (arith, after-more (some true xs) set (set-ascends (x .idx .0) (x .«new_raw») es a) (some-all true xs))
+      fits : (m : Bool) → leavesRow m x ≡ true → length (countsAfter (passOf m xs) set) * 2 ≤ len → length set * 2 ≤ len
+      fits true l k = omega (arith, after-more (passOf true xs) set (set-ascends (x .idx .0) (x .«new_raw») es a) (pass-all true xs))
       fits false l k = omega (arith, set-less (x .idx .0) (x .«new_raw») es a (few x l))
 
       go : (b : Bool) → (changes x && leavesRow many x) ≡ b → length (pick b set es) * 2 ≤ len
       go true e =
-          let q : countsAfter (some many (x ∷ xs)) es ≡ countsAfter (some many xs) set =
-          turn ∙ ap (λ (b : Bool). countsAfter (some many xs) (pick b set es)) e in
+          let q : countsAfter (passOf many (x ∷ xs)) es ≡ countsAfter (passOf many xs) set =
+          turn ∙ ap (λ (b : Bool). countsAfter (passOf many xs) (pick b set es)) e in
           fits many (and-right (changes x) (leavesRow many x) e) (rw q at k)
       go false e = h
 
@@ -161,14 +161,14 @@ module _ (many : Bool) (x : CounterTransition) (es : List Entry) where
   one-other e = rw e
 
 -- no transition is left
-pub some-none : (many : Bool) (es : List Entry) → countsAfter (some many []) es ≡ es
-unfolding some kept keep countsAfter fold
-some-none many es = refl
+pub pass-none : (many : Bool) (es : List Entry) → countsAfter (passOf many []) es ≡ es
+unfolding passOf kept keep countsAfter fold
+pass-none many es = refl
 
 -- ---- first those that leave no row, then those that leave one: together they are the batch
 pub two-passes : (ts : List CounterTransition) (es : List Entry) → repeated (named (kept ts)) ≡ false
-    → countsAfter (some true ts) (countsAfter (some false ts) es) ≡ countsAfter (kept ts) es
-unfolding some countsAfter
+    → countsAfter (passOf true ts) (countsAfter (passOf false ts) es) ≡ countsAfter (kept ts) es
+unfolding passOf countsAfter
 two-passes ts es once =
     sym (countsAfter-order (split-order (leavesRow true) (kept ts)) es once
     ∙ fold-append (λ t. setCount (t .idx .0) (t .«new_raw»)) (keep (leavesRow false) (kept ts)) (keep (leavesRow true) (kept ts)) es)

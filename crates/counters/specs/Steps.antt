@@ -40,9 +40,9 @@ abbrev pub leavesRow : Bool → CounterTransition → Bool
 leavesRow true t = leb 2 (t .«new_raw»)
 leavesRow false t = not (leb 2 (t .«new_raw»))
 
--- the kept transitions that do, or that don't
-unfoldable pub some : Bool → List CounterTransition → List CounterTransition
-some many ts = keep (leavesRow many) (kept ts)
+-- one pass over a batch: the kept transitions that do, or those that don't
+unfoldable pub passOf : Bool → List CounterTransition → List CounterTransition
+passOf many ts = keep (leavesRow many) (kept ts)
 
 -- the stored counts after one transition, if it is kept and does, or doesn't
 unfoldable pub applyOne : Bool → CounterTransition → List Entry → List Entry
