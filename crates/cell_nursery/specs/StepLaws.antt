@@ -26,6 +26,7 @@ use Rattle.rows.specs.RowLaws.{elem-miss, put-absent, keep-all, keep-hit, map-p
 use Rattle.cell_nursery.specs.HashLaws.{words-hash, U64, u64-drop, words-at}
 use Rattle.cell_nursery.specs.EntryLaws.{lookup-entryAt, entryAt-hit, entryAt-miss, bytes-insert}
 use Rattle.cell_nursery.specs.LayoutLaws.{length-cells, EntriesHeld, WaitingHeld, CellsHeld, number-entries, entries-keys, cells-same, bytes-same, rows-same, waiters-same}
+use Rattle.cell_nursery.specs.CodingLaws.{waiting-lawful}
 
 -- ---- the entries and the waiting rows
 module _ (es : List Entry) (o : ascending (map (λ x. x .hash) es) ≡ true) where
@@ -285,7 +286,7 @@ module _ (r : Nursery) (es ws cs : List ℕ) (x : EntriesHeld r es) (y : Waiting
   unfolding waitingTable insert stateOf putWaiting
   waiting-inserted e k here room =
       let w : Waiting = record { born = e .born; hash = e .hash } in
-      put-inserted waitingRow (λ q. q .born) firstWord (λ t. refl) (r .waiting) ws (y .laid) (y .rounds) (suc (e .born)) (suc (e .born)) k here here (waitingRowOf w) room
+      put-inserted waiting-lawful (λ q. q .born) firstWord (λ t. refl) (r .waiting) ws (y .laid) (y .rounds) (suc (e .born)) (suc (e .born)) k here here (waitingRowOf w) room
       ∙ ap (λ (q : List WaitingRow). tableOf waitingRow (length ws) q) (sym (map-put (λ q. q .born) waitingRowOf (suc (e .born)) (suc (e .born)) (w ∷ []) (waitingOf (r .waiting) ws)
       ∙ rw (waiters-same r ws v)))
 

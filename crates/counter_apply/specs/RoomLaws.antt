@@ -19,6 +19,7 @@ use Rattle.counters.specs.Counts.{Entry}
 use Rattle.counters.specs.declared.Counters.{Counters}
 use Rattle.counters.specs.Layout.{countRow, sound, ordered}
 use Rattle.counters.specs.LayoutLaws.{held}
+use Rattle.counters.specs.CodingLaws.{count-lawful}
 use Rattle.counters.specs.Held.{InOrder, Judged}
 use Rattle.counters.specs.Batch.{countsAfter}
 use Rattle.counters.specs.Steps.{transitions, passOf}
@@ -105,13 +106,13 @@ module _ (n at : ℕ) (t : List ℕ) (ok : InOrder n t) (low : n * 2 ≤ at) (hi
     size-after : length t′ ≡ length t
     size-after =
         ap length words ∙ length-append (tableOf countRow at (fronts ts es)) (tableOf countRow (length t - at) ns)
-        ∙ omega (arith, front-size, length-table countRow (length t - at) ns back-fits)
+        ∙ omega (arith, front-size, length-table count-lawful (length t - at) ns back-fits)
 
     fronts-are : rowsOf countRow n (take at t′) ≡ fronts ts es
     fronts-are = rw front-after (front-table .spells)
 
     backs-are : rowsOf countRow s (drop at t′) ≡ ns
-    backs-are = rw (back-after, number) (rowsOf-table countRow (length t - at) ns)
+    backs-are = rw (back-after, number) (rowsOf-table count-lawful (length t - at) ns)
 
     none-comes : all (comes ks) [] ≡ true
     unfolding all

@@ -13,6 +13,7 @@ use Rattle.rows.specs.TableLaws.{rowsOf-table, length-table, table-rowsOf, leng
 use Rattle.counters.specs.declared.CounterTransition.{CounterTransition}
 use Rattle.counters.specs.Counts.{Entry}
 use Rattle.counters.specs.Layout.{countRow}
+use Rattle.counters.specs.CodingLaws.{count-lawful}
 use Rattle.counters.specs.Batch.{countsAfter}
 use Rattle.counters.specs.Held.{InOrder}
 use Rattle.counters.specs.Steps.{transition, passOf, applyOne}
@@ -47,9 +48,9 @@ module _ (many : Bool) (bs : List CounterTransition) (len : ℕ) (es : List Entr
     seen-one n′ t′ e f =
         record {
           within = omega arith;
-          long = ap length f ∙ length-table countRow (length t) one one-has-room ∙ s .long;
+          long = ap length f ∙ length-table count-lawful (length t) one one-has-room ∙ s .long;
           order = rw (e, f) (in-order-table (length t) one one-has-room (one-ascends many x (drop (suc i) bs) rows (in-order-ascends n t (s .order))));
-          leads = rw (add-one, e, f, rowsOf-table countRow (length t) one) (sym (turn many x (drop (suc i) bs) rows (in-order-ascends n t (s .order))) ∙ from-here);
+          leads = rw (add-one, e, f, rowsOf-table count-lawful (length t) one) (sym (turn many x (drop (suc i) bs) rows (in-order-ascends n t (s .order))) ∙ from-here);
         }
 
   -- no record is left
@@ -58,4 +59,4 @@ module _ (many : Bool) (bs : List CounterTransition) (len : ℕ) (es : List Entr
       let e : i ≡ length bs = omega (arith, s .within) in
       let d : drop i bs ≡ [] = rw e (drop-length bs) in
       let q : rows ≡ es = sym (pass-none many rows) ∙ ap (λ ts. countsAfter (passOf many ts) rows) (sym d) ∙ s .leads in
-      rw (← q, ← s .long) (sym (length-rowsOf countRow n t), sym (table-rowsOf countRow n t (s .order .laid)))
+      rw (← q, ← s .long) (sym (length-rowsOf countRow n t), sym (table-rowsOf count-lawful n t (s .order .laid)))

@@ -19,6 +19,7 @@ use Rattle.rows.specs.OrderLaws.{putRows-ascending}
 use Rattle.counters.specs.declared.CounterTransition.{CounterTransition}
 use Rattle.counters.specs.Counts.{Entry, rowOf, setCount}
 use Rattle.counters.specs.Layout.{countRow}
+use Rattle.counters.specs.CodingLaws.{count-lawful}
 use Rattle.counters.specs.Batch.{changes, kept, named, countsAfter}
 use Rattle.counters.specs.Steps.{transition, leavesRow, passOf, applyOne}
 use Rattle.counters.specs.Held.{InOrder}
@@ -34,8 +35,8 @@ Ascends es = ascendingFrom 0 (map (λ e. e .idx) es) ≡ true
 pub in-order-table : (len : ℕ) (es : List Entry) → length es * 2 ≤ len → Ascends es → InOrder (length es) (tableOf countRow len es)
 in-order-table len es h a =
     record {
-      laid = laid-table countRow len es h;
-      ascends = rw (← indices (length es) (tableOf countRow len es), rowsOf-table countRow len es) a;
+      laid = laid-table count-lawful len es h;
+      ascends = rw (← indices (length es) (tableOf countRow len es), rowsOf-table count-lawful len es) a;
     }
 
 pub in-order-ascends : (n : ℕ) (t : List ℕ) → InOrder n t → Ascends (rowsOf countRow n t)
@@ -52,12 +53,12 @@ module _ (i m : ℕ) (es : List Entry) (a : Ascends es) where
 
   pub set-more : 2 ≤ m → length es ≤ length (setCount i m es)
   set-more h =
-      rw (rowsOf-table countRow (length es * 2) es) at
+      rw (rowsOf-table count-lawful (length es * 2) es) at
       (set-grows (length es) (tableOf countRow (length es * 2) es) ok i m (place i (keys firstWord 2 (length es) (tableOf countRow (length es * 2) es))) refl h)
 
   pub set-less : m < 2 → length (setCount i m es) ≤ length es
   set-less h =
-      rw (rowsOf-table countRow (length es * 2) es) at
+      rw (rowsOf-table count-lawful (length es * 2) es) at
       (set-shrinks (length es) (tableOf countRow (length es * 2) es) ok i m (place i (keys firstWord 2 (length es) (tableOf countRow (length es * 2) es))) refl h)
 
 -- ---- many

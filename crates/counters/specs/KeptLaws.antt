@@ -18,6 +18,7 @@ use Rattle.counters.specs.Maintenance.{maintained}
 use Rattle.counters.specs.Batch.{birth, death, kept, births, deaths, countsAfter, stateAfter}
 use Rattle.counters.specs.Layout.{countRow, recordOf, tableOf, stateOf}
 use Rattle.counters.specs.LayoutLaws.{held}
+use Rattle.counters.specs.CodingLaws.{count-lawful}
 use Rattle.counters.specs.Held.{InOrder, Judged}
 use Rattle.counters.specs.Steps.{transitions, passOf}
 use Rattle.counters.specs.RowLaws.{in-order}
@@ -57,10 +58,10 @@ module _ (c : Counters) (t ws : List ℕ) (j : Judged c t ws) where
         (in-order-table (length t) freed first-fits (after-ascends (passOf false (transitions ws)) es (in-order-ascends (c .stored) t ordered-rows)))
 
     same-length : length t′ ≡ length t
-    same-length = rw (table-is, length-table countRow (length t) freed first-fits)
+    same-length = rw (table-is, length-table count-lawful (length t) freed first-fits)
 
     rows-same : rowsOf countRow n t′ ≡ freed
-    rows-same = rw (rows-are, table-is, rowsOf-table countRow (length t) freed)
+    rows-same = rw (rows-are, table-is, rowsOf-table count-lawful (length t) freed)
 
     pub second-fits : length (countsAfter (passOf true (transitions ws)) (rowsOf countRow n t′)) * 2 ≤ length t′
     second-fits = rw (rows-same, both, same-length) (j .fits)

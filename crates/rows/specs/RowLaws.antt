@@ -13,7 +13,7 @@ use borrow.Author.Tests.{lt-ltb, le-ltb, le-leb, lt-leb, eq-eqb, ne-eqb, eqb-fal
 use Rattle.base.specs.Logic.{all, any, elem, keep, sumOf, ascendingFrom, sortedFrom}
 use Rattle.base.specs.Laws.{sorted-head, sorted-tail, ascending-tail, ascending-sorted}
 use Rattle.rows.specs.Table.{Coding, rowsOf, tableOf, holdsRows}
-use Rattle.rows.specs.TableLaws.{rowsOf-table, laid-table, laid-holds, length-table}
+use Rattle.rows.specs.TableLaws.{Lawful, rowsOf-table, laid-table, laid-holds, length-table}
 use Rattle.rows.specs.Keys.{keys, place, putRows}
 use Rattle.rows.specs.KeyLaws.{place-lt, place-ge, behind-hit, putRows-places}
 use Rattle.base.specs.ListLaws.{all-append, all-weaker, all-keep, all-kept, ascending-keep}
@@ -25,13 +25,13 @@ pub record IsTable {E : Type 0} (c : Coding E) (n len : ℕ) (es : List E) (t : 
   pub holds : holdsRows (c .width) n t ≡ true
   pub size : length t ≡ len
 
-pub is-table : {E : Type 0} (c : Coding E) (n len : ℕ) (es : List E) → length es ≡ n → n * c .width ≤ len → IsTable c n len es (tableOf c len es)
-is-table c n len es e h =
+pub is-table : {E : Type 0} {c : Coding E} → Lawful c → (n len : ℕ) (es : List E) → length es ≡ n → n * c .width ≤ len → IsTable c n len es (tableOf c len es)
+is-table {c} law n len es e h =
     let fits : length es * c .width ≤ len = rw e h in
     record {
-      spells = rw e at (rowsOf-table c len es);
-      holds = rw e at (laid-holds (c .width) (length es) (tableOf c len es) (laid-table c len es fits));
-      size = length-table c len es fits;
+      spells = rw e at (rowsOf-table law len es);
+      holds = rw e at (laid-holds (c .width) (length es) (tableOf c len es) (laid-table law len es fits));
+      size = length-table law len es fits;
     }
 
 -- ---- a key among keys

@@ -21,6 +21,7 @@ use Rattle.counters.specs.declared.Counters.{Counters}
 use Rattle.counters.specs.Counts.{Entry, freshMaintenance, fresh}
 use Rattle.counters.specs.Layout as layout
 use Rattle.counters.specs.Layout.{countRow, recordOf}
+use Rattle.counters.specs.CodingLaws.{count-lawful}
 use Rattle.counters.specs.Calls.{laid, laidOut}
 use Rattle.counters.specs.Maintenance.{standard}
 use Rattle.snapshot.specs.Calls.{deserializeCall}
@@ -49,12 +50,12 @@ module _ (len : ℕ) (es : List Entry) (i n : ℕ) (room : length es * 2 + 2 ≤
   put-row =
       let t = tableOf countRow len es in
       let k = length es in
-      let l : length t ≡ len = length-table countRow len es (omega arith) in
+      let l : length t ≡ len = length-table count-lawful len es (omega arith) in
       let z : k * 2 - k * 2 ≡ 0 = omega arith in
-      let g = inserted countRow k t (laid-table countRow len es (omega arith)) k (entry i n) (omega arith) (omega arith) in
+      let g = inserted count-lawful k t (laid-table count-lawful len es (omega arith)) k (entry i n) (omega arith) (omega arith) in
       paste-two t (k * 2) i n (omega arith)
       ∙ paste-right t (k * 2) (i ∷ n ∷ []) 2
-      ∙ (rw (z, rowsOf-table countRow len es, take-length es, drop-length es, append-nil (entry i n ∷ []), l) at g)
+      ∙ (rw (z, rowsOf-table count-lawful len es, take-length es, drop-length es, append-nil (entry i n ∷ []), l) at g)
 
 -- ---- a step of laying
 module _ (len k : ℕ) (both rest : List Entry) (x n : ℕ) (here : drop k both ≡ entry x n ∷ rest) where

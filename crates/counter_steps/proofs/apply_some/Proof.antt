@@ -6,6 +6,7 @@ use borrow.Author.Needs.{needs}
 use lib.ListN.{length, drop}
 use Rattle.rows.specs.Table.{rowsOf}
 use Rattle.counters.specs.Layout.{countRow}
+use Rattle.counters.specs.CodingLaws.{count-lawful}
 use Rattle.counters.specs.Steps.{transitionAt, transitions}
 use Rattle.counters.specs.StepLaws.{in-batch, from-transition, no-transition}
 use Rattle.rows.specs.TableLaws.{rowsOf-table, length-table, table-rowsOf, length-rowsOf}
@@ -95,9 +96,9 @@ loop-again c =
     ap (λ ts. countsAfter (passOf (a .many) ts) es) (sym (from-transition (a .b .now) (l .i) (omega arith))) ∙ l .inv .3 in
     let room = one-fits (a .many) x r es asc (length (l .t)) (rw (length-rowsOf countRow (l .rows) (l .t)) (l .inv .2 .laid .fits)) (rw (e, l .inv .1) (s .pre .1)) in (
       omega arith,
-      ap length (f .1) ∙ length-table countRow (length (l .t)) one room ∙ l .inv .1,
+      ap length (f .1) ∙ length-table count-lawful (length (l .t)) one room ∙ l .inv .1,
       rw (f .0, f .1) (in-order-table (length (l .t)) one room (one-ascends (a .many) x r es asc)),
-      rw (add-one, f .0, f .1, rowsOf-table countRow (length (l .t)) one) (sym (turn (a .many) x r es asc) ∙ e),
+      rw (add-one, f .0, f .1, rowsOf-table count-lawful (length (l .t)) one) (sym (turn (a .many) x r es asc) ∙ e),
     )
 
 same-length : tie.Need-same-length Inv-loop μ-loop
@@ -111,7 +112,7 @@ returns c =
     let e : rowsOf countRow (l .rows) (l .t) ≡ countsAfter (passOf (a .many) (transitions (a .b .now))) (rowsOf countRow (a .n) (a .t .now)) =
     sym (pass-none (a .many) (rowsOf countRow (l .rows) (l .t)))
     ∙ ap (λ ts. countsAfter (passOf (a .many) ts) (rowsOf countRow (l .rows) (l .t))) (sym (no-transition (a .b .now) (l .i) (omega arith) (omega arith))) ∙ l .inv .3 in
-    rw (← e, ← l .inv .1) (sym (length-rowsOf countRow (l .rows) (l .t)), sym (table-rowsOf countRow (l .rows) (l .t) (l .inv .2 .laid)))
+    rw (← e, ← l .inv .1) (sym (length-rowsOf countRow (l .rows) (l .t)), sym (table-rowsOf count-lawful (l .rows) (l .t) (l .inv .2 .laid)))
 
 pub apply-some-spec : {M : Type 1} → statement M
 apply-some-spec =
