@@ -8,13 +8,12 @@ use Prim.Native.Nat.{ℕ, zero, suc, _+_, _^_, _≤_, _<_}
 use native.Mathlib.Omega.{arith}
 use native.Mathlib.Decide.{decLe, ℕ-discrete}
 use lib.ListN.{length, getD, length-map}
-use lib.Dec.{leb, ltb, eqb}
+use lib.Dec.{leb, ltb, eqb, leb·suc-suc}
 use borrow.Author.Tests.{lt-ltb, le-ltb, le-leb, lt-leb, eq-eqb, ne-eqb, eqb-false, ltb-false}
 use Rattle.base.specs.Logic.{pick, all, any, elem, fold, keep, sumOf, ascending, ascendingFrom, sortedFrom}
 use Rattle.base.specs.Maybe.{maybe}
 use Rattle.base.specs.Laws.{and-left, and-right, ascending-tail, ascending-sorted}
-use Rattle.rows.specs.Keys.{putRows}
-use Rattle.rows.specs.KeyLaws.{sorted-over}
+use Rattle.rows.specs.KeyLaws.{putRows, sorted-over}
 use Rattle.cell_nursery.specs.Entries.{Entry, Waiting, State, empty, cellBytes, putEntry, putWaiting, insert, remove}
 use Rattle.cell_nursery.specs.Items.{Delta}
 use Rattle.cell_nursery.specs.Delta.{Room, used, full, stateAfter}
@@ -134,21 +133,28 @@ entryAt-miss h (e ∷ es) a =
     let ne = eqb-false h (e .hash) (or-left _ _ a) in
     rw (ne-eqb (e .hash) h (omega (arith, ne))) (entryAt-miss h es (or-right (eqb h (e .hash)) _ a))
 
+-- ---- a waiting row put in its place, as the laws of rows have it
+pub putWaiting-rows : (w : Waiting) (ws : List Waiting) → putWaiting w ws ≡ putRows (λ x. x .born) (suc (w .born)) (suc (w .born)) (w ∷ []) ws
+unfolding putWaiting putRows
+putWaiting-rows w ws = simp leb·suc-suc
+
 -- ---- how many rows and bytes
 
 module _ (e : Entry) (s : State) where
   -- an entry of a hash that was there gives way
   bytes-put : cellBytes (insert e s .entries) + cellBytes (keep (λ x. eqb (x .hash) (e .hash)) (s .entries)) ≡ length (e .cell) + cellBytes (s .entries)
-  unfolding insert putEntry cellBytes
+  unfolding insert putEntry cellBytes putRows
   bytes-put = sum-put (λ x. x .hash) (λ x. length (x .cell)) (e .hash) (e ∷ []) (s .entries) ∙ unfold sumOf in (omega arith)
 
   number-put : length (insert e s .entries) + length (keep (λ x. eqb (x .hash) (e .hash)) (s .entries)) ≡ suc (length (s .entries))
-  unfolding insert putEntry
+  unfolding insert putEntry putRows
   number-put = length-put (λ x. x .hash) (e .hash) (e ∷ []) (s .entries) ∙ omega arith
 
   pub waiting-insert : length (insert e s .waiting) ≡ suc (length (s .waiting))
-  unfolding insert putWaiting
-  waiting-insert = length-put-between (λ w. w .born) (suc (e .born)) (record { born = e .born; hash = e .hash } ∷ []) (s .waiting) ∙ omega arith
+  unfolding insert
+  waiting-insert =
+      ap length (putWaiting-rows (record { born = e .born; hash = e .hash }) (s .waiting))
+      ∙ length-put-between (λ w. w .born) (suc (e .born)) (record { born = e .born; hash = e .hash } ∷ []) (s .waiting) ∙ omega arith
 
   -- at most one row and the cell's bytes more
   pub bytes-insert-le : cellBytes (insert e s .entries) ≤ cellBytes (s .entries) + length (e .cell)
@@ -182,12 +188,14 @@ module _ (h : ℕ) (s : State) where
 -- ---- the order
 module _ (e : Entry) (s : State) where
   pub hashes-insert : ascending (map (λ x. x .hash) (s .entries)) ≡ true → ascending (map (λ x. x .hash) (insert e s .entries)) ≡ true
-  unfolding insert putEntry
+  unfolding insert putEntry putRows
   hashes-insert o = put-one-ascending (λ x. x .hash) e (s .entries) o
 
   pub rounds-insert : sortedFrom 0 (map (λ w. w .born) (s .waiting)) ≡ true → sortedFrom 0 (map (λ w. w .born) (insert e s .waiting)) ≡ true
-  unfolding insert putWaiting
-  rounds-insert o = put-one-sorted (λ w. w .born) (record { born = e .born; hash = e .hash }) (s .waiting) o
+  unfolding insert
+  rounds-insert o =
+      let w : Waiting = record { born = e .born; hash = e .hash } in
+      rw (putWaiting-rows w (s .waiting)) (put-one-sorted (λ x. x .born) w (s .waiting) o)
 
 module _ (h : ℕ) (s : State) where
   pub hashes-remove : ascending (map (λ e. e .hash) (s .entries)) ≡ true → ascending (map (λ e. e .hash) (remove h s .entries)) ≡ true
@@ -209,14 +217,16 @@ unfolding empty ascendingFrom sortedFrom all
 well-empty = record { hashes = refl; entries = refl; rounds = refl; waiting = refl }
 
 pub well-insert : (e : Entry) (s : State) → fitsItem e ≡ true → WellFormed s → WellFormed (insert e s)
-unfolding insert putEntry putWaiting
+unfolding insert putEntry putRows
 well-insert e s f w =
     let x : Waiting = record { born = e .born; hash = e .hash } in
     record {
       hashes = hashes-insert e s (w .hashes);
       entries = all-put (λ y. y .hash) (e .hash) (suc (e .hash)) (e ∷ []) (s .entries) fitsItem (w .entries) (all-one fitsItem e f);
       rounds = rounds-insert e s (w .rounds);
-      waiting = all-put (λ y. y .born) (suc (e .born)) (suc (e .born)) (x ∷ []) (s .waiting) fitsWaiting (w .waiting) (all-one fitsWaiting x (waiter-fits e f));
+      waiting =
+          rw (putWaiting-rows x (s .waiting))
+          (all-put (λ y. y .born) (suc (e .born)) (suc (e .born)) (x ∷ []) (s .waiting) fitsWaiting (w .waiting) (all-one fitsWaiting x (waiter-fits e f)));
     }
 
 pub well-remove : (h : ℕ) (s : State) → WellFormed s → WellFormed (remove h s)

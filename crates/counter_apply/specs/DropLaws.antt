@@ -14,7 +14,8 @@ use Rattle.counters.specs.Counts.{Entry}
 use Rattle.counters.specs.Layout.{countRow}
 use Rattle.counters.specs.Held.{InOrder}
 use Rattle.counters.specs.Batch.{countsAfter}
-use Rattle.counters.specs.Steps.{transitions, passOf}
+use Rattle.counters.specs.Steps.{transitions}
+use Rattle.counter_steps.specs.Steps.{passOf}
 use Rattle.counters.specs.RowLaws.{indices}
 use Rattle.counters.specs.ApplyLaws.{in-order-ascends}
 use Rattle.counter_merge.specs.Passes.{stands, standing, anyHit, marked}

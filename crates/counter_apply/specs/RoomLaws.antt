@@ -22,7 +22,8 @@ use Rattle.counters.specs.LayoutLaws.{held}
 use Rattle.counters.specs.CodingLaws.{count-lawful}
 use Rattle.counters.specs.Held.{InOrder, Judged}
 use Rattle.counters.specs.Batch.{countsAfter}
-use Rattle.counters.specs.Steps.{transitions, passOf}
+use Rattle.counters.specs.Steps.{transitions}
+use Rattle.counter_steps.specs.Steps.{passOf}
 use Rattle.counters.specs.RowLaws.{indices}
 use Rattle.counters.specs.ApplyLaws.{in-order-table, in-order-ascends}
 use Rattle.counter_merge.specs.Passes.{stands, newRows, fronts, backs, joined, comes}

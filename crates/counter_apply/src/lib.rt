@@ -1,6 +1,6 @@
 // A batch that passed every test, applied: first the rows that go, then those that come, each in a few passes over the table.
+use counter_steps::Kind;
 use counters::Counters;
-use counters::Kind;
 use counters::NextIdx;
 ghost use mathlib.Core.Path.{_≡_};
 ghost use mathlib.Core.Bool.{true, false};
@@ -13,7 +13,8 @@ ghost use Rattle.counters.specs.Layout as layout;
 ghost use Rattle.counters.specs.Layout.{countRow, recordOf, stateOf};
 ghost use Rattle.counters.specs.Batch.{kept, countsAfter, stateAfter};
 ghost use Rattle.counters.specs.Held.{InOrder, Judged};
-ghost use Rattle.counters.specs.Steps.{transitions, passOf};
+ghost use Rattle.counters.specs.Steps.{transitions};
+ghost use Rattle.counter_steps.specs.Steps.{passOf};
 ghost use Rattle.counter_merge.specs.Passes.{stands};
 
 // Applies the kept transitions that leave no row. Returns how many rows there are then.

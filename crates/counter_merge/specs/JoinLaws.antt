@@ -10,9 +10,9 @@ use borrow.Author.Tests.{le-leb, lt-leb, le-ltb, lt-ltb, eq-eqb, ne-eqb, eqb-tru
 use Rattle.base.specs.Logic.{pick, all, keep, fold, ascendingFrom}
 use Rattle.base.specs.Laws.{and-both, ascending-head, ascending-tail, ascending-sorted}
 use Rattle.base.specs.ListLaws.{all-head, all-tail, all-kept, all-weaker, keep-append, keep-whole, keep-empty, fold-append}
-use Rattle.rows.specs.Keys.{putRows}
 use Rattle.rows.specs.OrderLaws.{putRows-all}
 use Rattle.rows.specs.RowLaws.{keep-others}
+use Rattle.rows.specs.KeyLaws.{putRows}
 use Rattle.counters.specs.Counts.{Entry, rowOf, setCount}
 use Rattle.counters.specs.CountLaws.{setCount-again, setCount-swap}
 use Rattle.counter_merge.specs.Passes.{joined}
@@ -146,7 +146,7 @@ row-under b i m h = go (leb 2 m)
     go false = refl
 
 join-under : (b : ℕ) (ns es : List Entry) → under b ns → under b es → under b (joined ns es)
-unfolding joined fold setCount
+unfolding joined fold setCount putRows
 join-under b [] es u v = v
 join-under b (x ∷ ns) es u v =
     let l = ltb-true (x .idx) b (all-head (λ y. ltb (y .idx) b) x ns u) in

@@ -11,15 +11,16 @@ use borrow.Author.Tests.{le-leb, leb-true, eqb-true}
 use Rattle.base.specs.Logic.{pick, all, elem, fold, ascendingFrom}
 use Rattle.base.specs.Laws.{and-right}
 use Rattle.base.specs.ListLaws.{all-weaker, length-keep}
-use Rattle.rows.specs.Keys.{putRows}
 use Rattle.rows.specs.RowLaws.{length-put}
 use Rattle.rows.specs.OrderLaws.{putRows-all}
+use Rattle.rows.specs.KeyLaws.{putRows}
 use Rattle.counters.specs.declared.CounterTransition.{CounterTransition}
 use Rattle.counters.specs.Counts.{Entry, rowOf, setCount}
 use Rattle.counters.specs.CountLaws.{length-rowOf}
 use Rattle.counters.specs.Batch.{changes, countsAfter}
-use Rattle.counters.specs.Steps.{leavesRow, passOf, applyOne}
-use Rattle.counters.specs.ApplyLaws.{turn, pass-none, set-ascends}
+use Rattle.counter_steps.specs.Steps.{leavesRow, passOf, applyOne}
+use Rattle.counters.specs.ApplyLaws.{set-ascends}
+use Rattle.counter_steps.specs.PassLaws.{turn, pass-none}
 use Rattle.counter_merge.specs.Passes.{replaced, lands, frontOne, fronts, isNew, newRows, backOne, backs, joined, comes}
 use Rattle.counter_merge.specs.MarkLaws.{replaced-indices, replaced-none, set-replaced-rows}
 use Rattle.counter_merge.specs.JoinLaws.{join-past, join-into, join-none}
@@ -64,7 +65,7 @@ module _ (x : CounterTransition) where
   module _ (ks : List ℕ) where
     -- one row more at most
     pub back-length : (ns : List Entry) → length (backOne ks x ns) ≤ length ns + pick (isNew ks x) 1 0
-    unfolding backOne setCount
+    unfolding backOne setCount putRows
     back-length ns = go (lands x && not (elem i ks))
       where
         one : (b : Bool) → pick b 1 0 ≤ 1
@@ -84,7 +85,7 @@ module _ (x : CounterTransition) where
         go false = a
 
     pub back-comes : (ns : List Entry) → all (comes ks) ns ≡ true → all (comes ks) (backOne ks x ns) ≡ true
-    unfolding backOne setCount
+    unfolding backOne setCount putRows
     back-comes ns c = go (lands x) (elem i ks) refl refl
       where
         go : (b d : Bool) → lands x ≡ b → elem i ks ≡ d → all (comes ks) (pick (b && not d) (putRows index i (suc i) (rowOf i m) ns) ns) ≡ true

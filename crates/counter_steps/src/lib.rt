@@ -1,7 +1,6 @@
 // What a batch counts and changes: its tallies, its transitions applied, and maintenance after them. It is lent as words, three a transition
 // (index, old, new).
 use counters::CounterMaintenance;
-use counters::Kind;
 ghost use mathlib.Core.Path.{_≡_};
 ghost use mathlib.Core.Bool.{_&&_};
 ghost use Prim.Native.Nat.{_*_, _≤_};
@@ -13,7 +12,17 @@ ghost use Rattle.counters.specs.Maintenance.{grownSets, maintained};
 ghost use Rattle.counters.specs.Layout.{countRow};
 ghost use Rattle.counters.specs.Batch.{changes, kept, countsAfter};
 ghost use Rattle.counters.specs.Held.{InOrder};
-ghost use Rattle.counters.specs.Steps.{transition, transitions, ofKind, leavesRow, passOf, applyOne};
+ghost use Rattle.counters.specs.Steps.{transition, transitions};
+ghost use Rattle.counter_steps.specs.Steps.{ofKind, leavesRow, passOf, applyOne};
+
+// The kinds of transitions that are counted: cells that come and go, rows that come and go, and bits that are cleared.
+pub enum Kind {
+    Birth,
+    Death,
+    Rise,
+    Fall,
+    Clear(u32),
+}
 
 // Whether a transition is of a kind.
 fn is_kind(kind: Kind, idx: u64, old: u64, new: u64) -> bool

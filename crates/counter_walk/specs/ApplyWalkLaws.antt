@@ -17,8 +17,9 @@ use Rattle.counters.specs.declared.CounterTransition.{CounterTransition}
 use Rattle.counters.specs.Counts.{Entry}
 use Rattle.counters.specs.Layout.{countRow}
 use Rattle.counters.specs.CodingLaws.{count-lawful}
-use Rattle.counters.specs.Steps.{transition, applyOne}
-use Rattle.counters.specs.ApplyLaws.{two-passes}
+use Rattle.counters.specs.Steps.{transition}
+use Rattle.counter_steps.specs.Steps.{applyOne}
+use Rattle.counter_steps.specs.PassLaws.{two-passes}
 use Rattle.counter_walk.specs.declared.Phase.{Phase}
 use Rattle.counter_walk.specs.declared.Phase.the-variants.{Free, Store, End}
 use Rattle.counter_walk.specs.declared.Walk.{Walk}

@@ -17,8 +17,8 @@ use Rattle.counters.specs.Batch.{kept, named, births, deaths, countsAfter, stat
 use Rattle.counters.specs.Layout.{countRow, holds, recordOf, tableOf, stateOf}
 use Rattle.counters.specs.Held.{Judged}
 use Rattle.counters.specs.Calls.{effect, batchCall}
-use Rattle.counters.specs.Steps.{passOf}
-use Rattle.counters.specs.KeptLaws.{first-fits}
+use Rattle.counter_steps.specs.Steps.{passOf}
+use Rattle.counter_steps.specs.KeptLaws.{first-fits}
 use Rattle.counter_walk.specs.declared.Phase.{Phase}
 use Rattle.counter_walk.specs.declared.Phase.the-variants.{Look, Again, Free, Store, End}
 use Rattle.counter_walk.specs.declared.Sums.{Sums}

@@ -21,7 +21,8 @@ use Rattle.counters.specs.Maintenance.{falls, rises, maintained}
 use Rattle.counters.specs.Batch.{birth, death, kept, named, unallocated, falseOld, births, deaths, offTotal, countsAfter, stateAfter}
 use Rattle.counters.specs.Layout.{roomOf, recordOf, tableOf, stateOf}
 use Rattle.counters.specs.Calls.{effect, batchCall}
-use Rattle.counters.specs.Steps.{transitions, passOf}
+use Rattle.counters.specs.Steps.{transitions}
+use Rattle.counter_steps.specs.Steps.{passOf}
 use Rattle.counters.specs.JudgeLaws as judge
 use Rattle.counters.specs.JudgeLaws.{judge-unallocated, judge-repeated, judge-false-old, judge-off-total, rows-after, judge-full, judge-taken, total-of}
 use Rattle.counters.specs.RowLaws.{in-order}

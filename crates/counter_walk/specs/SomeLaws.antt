@@ -16,8 +16,10 @@ use Rattle.counters.specs.Layout.{countRow}
 use Rattle.counters.specs.CodingLaws.{count-lawful}
 use Rattle.counters.specs.Batch.{countsAfter}
 use Rattle.counters.specs.Held.{InOrder}
-use Rattle.counters.specs.Steps.{transition, passOf, applyOne}
-use Rattle.counters.specs.ApplyLaws.{in-order-table, in-order-ascends, one-ascends, one-fits, turn, pass-none}
+use Rattle.counters.specs.Steps.{transition}
+use Rattle.counter_steps.specs.Steps.{passOf, applyOne}
+use Rattle.counters.specs.ApplyLaws.{in-order-table, in-order-ascends}
+use Rattle.counter_steps.specs.PassLaws.{one-ascends, one-fits, turn, pass-none}
 
 -- i records of bs are seen: the table has n rows, and those that are left lead from it to es
 pub record Seen (many : Bool) (bs : List CounterTransition) (len : ℕ) (es : List Entry) (i n : ℕ) (t : List ℕ) : Type 0 where

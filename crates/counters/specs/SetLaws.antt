@@ -14,8 +14,8 @@ use borrow.Author.Tests.{le-leb, lt-leb, eqb-true, eqb-false}
 use Rattle.base.specs.Logic.{zeros}
 use Rattle.rows.specs.Table.{rowsOf, tableOf}
 use Rattle.rows.specs.TableLaws.{length-rowsOf, table-rowsOf}
-use Rattle.rows.specs.Keys.{keys, firstWord, place, putRows}
-use Rattle.rows.specs.KeyLaws.{place-le, length-keys, word-at, behind-hit, behind-end, behind-miss}
+use Rattle.rows.specs.Keys.{keys, firstWord, place}
+use Rattle.rows.specs.KeyLaws.{putRows, place-le, length-keys, word-at, behind-hit, behind-end, behind-miss}
 use Rattle.rows.specs.PutLaws.{put-more, put-inserted, put-none, put-same, put-replaced, put-less, put-removed}
 use Rattle.counters.specs.Counts.{Entry, rowOf, setCount}
 use Rattle.counters.specs.Layout.{countRow}
@@ -66,11 +66,11 @@ module _ (n : ℕ) (t : List ℕ) (ok : InOrder n t) (i m k : ℕ) (here : k ≡
   row = record { idx = i; count = m }
 
   set-one : 2 ≤ m → setCount i m es ≡ putRows (λ e. e .idx) i (suc i) (row ∷ []) es
-  unfolding setCount
+  unfolding setCount putRows
   set-one h = rw (one-row i m h)
 
   set-none : m < 2 → setCount i m es ≡ putRows (λ e. e .idx) i (suc i) [] es
-  unfolding setCount
+  unfolding setCount putRows
   set-none h = rw (no-row i m h)
 
   pub set-replaced : k < n → getD t (k * 2) 0 ≡ i → 2 ≤ m

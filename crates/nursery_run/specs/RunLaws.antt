@@ -11,7 +11,7 @@ use borrow.Author.Tests.{ne-eqb, eqb-false, ltb-false}
 use Rattle.base.specs.Logic.{pick, any, all, elem, keep, fold, repeated, sumOf}
 use Rattle.base.specs.Laws.{and-left, and-right}
 use Rattle.base.specs.SumLaws.{or-left, or-right}
-use Rattle.rows.specs.Keys.{putRows}
+use Rattle.rows.specs.KeyLaws.{putRows}
 use Rattle.cell_nursery.specs.declared.Nursery.{Nursery}
 use Rattle.cell_nursery.specs.Entries.{Entry, State, cellBytes, putEntry, insert, remove}
 use Rattle.cell_nursery.specs.Items.{Delta}

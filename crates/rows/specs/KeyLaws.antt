@@ -15,7 +15,7 @@ use Rattle.base.specs.Logic.{pick, keep, ascendingFrom, sortedFrom}
 use Rattle.base.specs.Laws.{and-left, and-right, and-both, sorted-head, sorted-tail, ascending-head, ascending-tail}
 use Rattle.rows.specs.Table.{Coding, rowsOf}
 use Rattle.rows.specs.TableLaws.{length-rowsOf}
-use Rattle.rows.specs.Keys.{keys, firstWord, place, putRows}
+use Rattle.rows.specs.Keys.{keys, firstWord, place}
 
 -- ---- the place
 pub place-lt : (i k : ℕ) (ks : List ℕ) → k < i → place i (k ∷ ks) ≡ suc (place i ks)
@@ -165,6 +165,10 @@ keys-rowsOf c key word same zero t = refl
 keys-rowsOf c key word same (suc n) t = rw (same t, keys-rowsOf c key word same n (drop (c .width) t))
 
 -- ---- rows put in their place
+-- other rows between those with keys below lo and those with keys from hi on: what the laws speak of, for any key
+unfoldable pub putRows : {E : Type 0} → (E → ℕ) → ℕ → ℕ → List E → List E → List E
+putRows key lo hi new es = keep (λ e. ltb (key e) lo) es ++ (new ++ keep (λ e. leb hi (key e)) es)
+
 module _ {E : Type 0} (key : E → ℕ) where
   keep-none-below : (i lo : ℕ) (es : List E) → sortedFrom lo (map key es) ≡ true → i ≤ lo → keep (λ e. ltb (key e) i) es ≡ []
   unfolding keep

@@ -10,7 +10,7 @@ use borrow.Author.Tests.{le-ltb, lt-ltb, le-leb, lt-leb, leb-true, ltb-true}
 use Rattle.base.specs.Logic.{all, keep, ascendingFrom}
 use Rattle.base.specs.Laws.{and-left, and-right}
 use Rattle.base.specs.ListLaws.{all-append, all-weaker, all-keep, all-kept, keep-append, keep-whole, keep-empty, keep-swap, keep-narrow, ascending-append, ascending-keep, ascending-from}
-use Rattle.rows.specs.Keys.{putRows}
+use Rattle.rows.specs.KeyLaws.{putRows}
 
 -- ---- the tests of a key k against two bounds
 module _ (k i j : ℕ) (h : i ≤ j) where

@@ -10,8 +10,8 @@ use lib.Seq.{length-take-le}
 use Rattle.base.specs.Logic.{zeros, sortedFrom}
 use Rattle.rows.specs.Table.{Coding, rowsOf, tableOf, Laid}
 use Rattle.rows.specs.TableLaws.{Lawful, length-rowsOf, inserted, removed, replaced}
-use Rattle.rows.specs.Keys.{keys, place, putRows}
-use Rattle.rows.specs.KeyLaws.{place-le, length-keys, keys-rowsOf, putRows-places}
+use Rattle.rows.specs.Keys.{keys, place}
+use Rattle.rows.specs.KeyLaws.{putRows, place-le, length-keys, keys-rowsOf, putRows-places}
 
 module _ {E : Type 0} {c : Coding E} (law : Lawful c) (key : E → ℕ) (word : List ℕ → ℕ) (same : (t : List ℕ) → key (c .dec t) ≡ word t)
     (n : ℕ) (t : List ℕ) (laid : Laid (c .width) n t) (sorted : sortedFrom 0 (keys word (c .width) n t) ≡ true) (lo hi : ℕ) where

@@ -14,8 +14,8 @@ use Rattle.base.specs.Logic.{all, any, elem, keep, sumOf, ascendingFrom, sorted
 use Rattle.base.specs.Laws.{sorted-head, sorted-tail, ascending-tail, ascending-sorted}
 use Rattle.rows.specs.Table.{Coding, rowsOf, tableOf, holdsRows}
 use Rattle.rows.specs.TableLaws.{Lawful, rowsOf-table, laid-table, laid-holds, length-table}
-use Rattle.rows.specs.Keys.{keys, place, putRows}
-use Rattle.rows.specs.KeyLaws.{place-lt, place-ge, behind-hit, putRows-places}
+use Rattle.rows.specs.Keys.{keys, place}
+use Rattle.rows.specs.KeyLaws.{putRows, place-lt, place-ge, behind-hit, putRows-places}
 use Rattle.base.specs.ListLaws.{all-append, all-weaker, all-keep, all-kept, ascending-keep}
 use Rattle.base.specs.SumLaws.{or-left, or-right, all-map, sum-append, length-sum, ascending-append, sorted-append, keep-map, keep-sorted}
 

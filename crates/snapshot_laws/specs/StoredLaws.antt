@@ -13,6 +13,7 @@ use Rattle.base.specs.Logic.{pick, all, any, fold, elem, ascendingFrom}
 use Rattle.base.specs.Laws.{and-left, and-right}
 use Rattle.base.specs.ListLaws.{eqb-eq, Some, here, there, some-weaker, any-some}
 use Rattle.rows.specs.OrderLaws.{putRows-all}
+use Rattle.rows.specs.KeyLaws.{putRows}
 use Rattle.counters.specs.Counts.{Entry, storedAt, countAt, rowOf, setCount}
 use Rattle.counters.specs.CountLaws.{storedAt-setCount}
 use Rattle.counters.specs.ApplyLaws.{set-ascends}
@@ -33,7 +34,7 @@ row-two i n = go (leb 2 n) refl
     go false q = refl
 
 set-two : (i n : ℕ) (es : List Entry) → all two es ≡ true → all two (setCount i n es) ≡ true
-unfolding setCount
+unfolding setCount putRows
 set-two i n es a = putRows-all (λ e. e .idx) two i (suc i) (rowOf i n) es (row-two i n) a
 
 -- ---- a row has the index exactly where a count is stored

@@ -18,6 +18,7 @@ use Rattle.base.specs.declared.Answer.{Answer}
 use Rattle.base.specs.declared.Answer.the-variants.{Taken, Refused}
 use Rattle.rows.specs.Table.{rowsOf}
 use Rattle.rows.specs.OrderLaws.{putRows-all}
+use Rattle.rows.specs.KeyLaws.{putRows}
 use Rattle.counters.specs.declared.Counters.{Counters}
 use Rattle.counters.specs.declared.CounterTransition.{CounterTransition}
 use Rattle.counters.specs.declared.NextIdx.{NextIdx}
@@ -46,7 +47,7 @@ row-fits i n h = go (leb 2 n)
     go false = refl
 
 counts-fit-after : (ts : List CounterTransition) (es : List Entry) → all (λ t. ltb (t .«new_raw») (2 ^ 64)) ts ≡ true → all fits es ≡ true → all fits (countsAfter ts es) ≡ true
-unfolding countsAfter fold all setCount
+unfolding countsAfter fold all setCount putRows
 counts-fit-after [] es a f = f
 counts-fit-after (t ∷ ts) es a f =
     let small : Bool = all (λ u. ltb (u .«new_raw») (2 ^ 64)) ts in

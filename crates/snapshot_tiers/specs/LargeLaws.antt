@@ -15,7 +15,7 @@ use Rattle.base.specs.ListLaws.{or-false, all-weaker, keep-empty, keep-append, 
 use Rattle.base.specs.Bytes.{unle}
 use Rattle.base.specs.Answers.{Outcome, taken, _>>_, refuseIf}
 use Rattle.base.specs.declared.Refusal.the-variants.{BadLarge}
-use Rattle.rows.specs.Keys.{putRows}
+use Rattle.rows.specs.KeyLaws.{putRows}
 use Rattle.counters.specs.Counts.{Entry, rowOf, setCount}
 use Rattle.snapshot.specs.Read.{readLarge}
 use Rattle.snapshot_tiers.specs.declared.Head.{Head}

@@ -11,8 +11,8 @@ use borrow.Author.Tests.{le-leb, lt-leb, le-ltb, lt-ltb, leb-true, eqb-true, eqb
 use Rattle.base.specs.Logic.{pick, all, keep, fold, ascendingFrom}
 use Rattle.base.specs.Laws.{and-left, and-right, and-both, ascending-head, ascending-tail, ascending-lower}
 use Rattle.base.specs.ListLaws.{keep-whole, keep-empty}
-use Rattle.rows.specs.Keys.{putRows}
 use Rattle.rows.specs.OrderLaws.{putRows-all}
+use Rattle.rows.specs.KeyLaws.{putRows}
 use Rattle.counters.specs.Counts.{Entry, storedAt, countAt, rowOf, setCount}
 use Rattle.snapshot.specs.Read.{layBit}
 use Rattle.snapshot_tiers.specs.Payloads.{layAll}
@@ -79,7 +79,7 @@ module _ (i n : ℕ) (es : List Entry) where
   set-behind e h = rw (lt-ltb (e .idx) i h, lt-leb (suc i) (e .idx) (omega arith))
 
   pub set-above : (lo : ℕ) → lo ≤ i → Above lo es → Above lo (setCount i n es)
-  unfolding setCount rowOf all
+  unfolding setCount rowOf all putRows
   set-above lo h a = putRows-all (λ e. e .idx) (λ e. leb lo (e .idx)) i (suc i) (rowOf i n) es (row (leb 2 n)) a
     where
       row : (b : Bool) → all (λ e. leb lo (e .idx)) (pick b (entry i n ∷ []) []) ≡ true

@@ -5,7 +5,7 @@ use Rattle.counters.specs.Layout.{countRow}
 use Rattle.counters.specs.CodingLaws.{count-lawful}
 use Rattle.counters.specs.Steps.{transition}
 use Rattle.rows.specs.TableLaws.{table-rowsOf, length-rowsOf}
-use Rattle.counters.specs.ApplyLaws.{one-due, one-other}
+use Rattle.counter_steps.specs.PassLaws.{one-due, one-other}
 use Rattle.counter_steps.proofs.apply_one.Statement.{statement}
 use Rattle.counter_steps.proofs.apply_one.Tie as tie
 

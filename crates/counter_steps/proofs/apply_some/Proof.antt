@@ -13,9 +13,10 @@ use Rattle.rows.specs.TableLaws.{rowsOf-table, length-table, table-rowsOf, leng
 use Rattle.counters.specs.Batch.{countsAfter}
 use mathlib.Core.List.{_∷_}
 use mathlib.Core.Path.{refl}
-use Rattle.counters.specs.Steps.{passOf, applyOne}
+use Rattle.counter_steps.specs.Steps.{passOf, applyOne}
 use Rattle.counters.specs.Held.{InOrder}
-use Rattle.counters.specs.ApplyLaws.{in-order-table, in-order-ascends, one-ascends, one-fits, turn, pass-none}
+use Rattle.counters.specs.ApplyLaws.{in-order-table, in-order-ascends}
+use Rattle.counter_steps.specs.PassLaws.{one-ascends, one-fits, turn, pass-none}
 use Rattle.counter_steps.proofs.apply_some.Statement.{statement}
 use Rattle.counter_steps.proofs.apply_some.Tie as tie
 

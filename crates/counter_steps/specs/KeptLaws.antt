@@ -10,19 +10,21 @@ use Rattle.base.specs.Logic.{keep}
 use Rattle.rows.specs.Table as rows
 use Rattle.rows.specs.Table.{rowsOf}
 use Rattle.rows.specs.TableLaws.{rowsOf-table, length-table, length-rowsOf}
 use Rattle.counters.specs.declared.Counters.{Counters}
 use Rattle.counters.specs.declared.CounterMaintenance.{CounterMaintenance}
 use Rattle.counters.specs.declared.CounterTransition.{CounterTransition}
 use Rattle.counters.specs.Counts.{Entry}
 use Rattle.counters.specs.Maintenance.{maintained}
 use Rattle.counters.specs.Batch.{birth, death, kept, births, deaths, countsAfter, stateAfter}
 use Rattle.counters.specs.Layout.{countRow, recordOf, tableOf, stateOf}
 use Rattle.counters.specs.LayoutLaws.{held}
 use Rattle.counters.specs.CodingLaws.{count-lawful}
 use Rattle.counters.specs.Held.{InOrder, Judged}
-use Rattle.counters.specs.Steps.{transitions, passOf}
+use Rattle.counters.specs.Steps.{transitions}
 use Rattle.counters.specs.RowLaws.{in-order}
-use Rattle.counters.specs.ApplyLaws.{in-order-table, in-order-ascends, after-ascends, after-more, after-less, pass-all, two-passes}
+use Rattle.counters.specs.ApplyLaws.{in-order-table, in-order-ascends, after-ascends}
+use Rattle.counter_steps.specs.Steps.{passOf}
+use Rattle.counter_steps.specs.PassLaws.{after-less, pass-all, two-passes}
 
 module _ (c : Counters) (t ws : List ℕ) (j : Judged c t ws) where
   abbrev es : List Entry
