@@ -32,17 +32,9 @@ use Rattle.snapshot_tiers.specs.TierLaws.{entry, fromIdx, tierOf}
 use Rattle.snapshot_tiers.specs.Heads.{setAll}
 use Rattle.snapshot_tiers.specs.JoinLaws.{Front, restOf}
 use Rattle.snapshot_judge.specs.Judge.{far}
-use Rattle.snapshot_judge.specs.Decide.{countsOf, Decided, Planned}
-
--- the record of new counters
-abbrev pub freshRecord : ℕ → ℕ → ℕ → ℕ → Counters
-freshRecord next live stored base =
-    record {
-      «next_idx» = record { 0 = next };
-      «live_cells» = live;
-      stored = stored;
-      maintenance = record { «alive_removed_since_shrink» = 0; «small_removed_since_shrink» = zeros 8; «min_alive_removed_before_shrink» = base };
-    }
+use Rattle.snapshot_judge.specs.Decide.{countsOf, Planned}
+use Rattle.snapshot_judge.specs.DecideLaws.{Decided}
+use Rattle.snapshot_read.specs.Fresh.{freshRecord}
 
 -- ---- a row behind the others
 module _ (len : ℕ) (es : List Entry) (i n : ℕ) (room : length es * 2 + 2 ≤ len) where

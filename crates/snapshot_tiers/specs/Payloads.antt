@@ -8,7 +8,7 @@ use Prim.Native.Nat.{ℕ, zero, suc}
 use native.Mathlib.Omega.{arith}
 use lib.ListN.{length, take, drop}
 use lib.Dec.{leb}
-use Rattle.base.specs.Logic.{all, ascending, ascendingFrom}
+use Rattle.base.specs.Logic.{all, from, ascending, ascendingFrom}
 use Rattle.base.specs.Maybe as maybe
 use Rattle.base.specs.Bytes.{unle, cut, readLe}
 use Rattle.base.specs.Laws.{and-both}
@@ -76,8 +76,8 @@ readLe-gives n bs p = go (leb n (length bs))
     go true e = cc
     go false e = let z : _≡_ {A = ℕ} 0 1 = cc in absurd (omega arith)
 
-pub sets-read : (n k : ℕ) (es : List Entry) (bs : List ℕ) → readSets n k es bs ≡ (restAfter n bs >>= (λ r. taken (layAll k (setsOf n bs) es, r)))
-unfolding readSets restAfter setsOf layAll
+pub sets-read : (n k : ℕ) (es : List Entry) (bs : List ℕ) → readSets (from k n) es bs ≡ (restAfter n bs >>= (λ r. taken (layAll k (setsOf n bs) es, r)))
+unfolding readSets from restAfter setsOf layAll
 sets-read zero k es bs = refl
 sets-read (suc n) k es bs =
     bind-later TornSnapshot (readLe 8 bs) _ _ _ (λ a p.

@@ -95,7 +95,7 @@ add-lo c =
     let p : Front (l .lo) xss big (sh .result) (l .b) (fi .result) =
     front-at bs (l .lo) (rawOf (a .p .large) (drop (a .p .end) bs)) (l .lanes) (sh .result) (l .b) (fi .result) (q .readable .high) (l .inv .3) (sh .ensures) (l .inv .6) (fi .ensures) in
     let h : l .k < length both = omega (arith, q .rows) in
-    omega (arith, q .word, row-below (l .lo) xss big both (sh .result) (l .b) (fi .result) p (l .k) h (l .inv .5) (a .p .next) (q .below))
+    omega (arith, s .good, row-below (l .lo) xss big both (sh .result) (l .b) (fi .result) p (l .k) h (l .inv .5) (a .p .next) (q .below))
 
 add-k : tie.Need-add-k Inv-loop μ-loop
 add-k c = omega arith
