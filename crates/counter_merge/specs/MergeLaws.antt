@@ -22,7 +22,7 @@ use Rattle.rows.specs.RowLaws.{elem-hit}
 use Rattle.counters.specs.Counts.{Entry}
 use Rattle.counters.specs.Layout.{countRow}
 use Rattle.counters.specs.CodingLaws.{count-lawful}
-use Rattle.counters.specs.RowLaws.{rowAt}
+use Rattle.counters.specs.Steps.{rowAt}
 use Rattle.counters.specs.ApplyLaws.{in-order-ascends}
 use Rattle.counter_merge.specs.Passes.{joined, comes, frontLast, lastAt}
 use Rattle.counter_merge.specs.Halves.{Apart}

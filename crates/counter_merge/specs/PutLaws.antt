@@ -11,8 +11,7 @@ use borrow.Author.Tests.{le-leb, leb-true, eqb-true}
 use Rattle.base.specs.Logic.{pick, all, elem, fold, ascendingFrom}
 use Rattle.base.specs.Laws.{and-right}
 use Rattle.base.specs.ListLaws.{all-weaker, length-keep}
-use Rattle.rows.specs.RowLaws.{length-put}
-use Rattle.rows.specs.OrderLaws.{putRows-all}
+use Rattle.rows.specs.RowLaws.{all-put, length-put}
 use Rattle.rows.specs.KeyLaws.{putRows}
 use Rattle.counters.specs.declared.CounterTransition.{CounterTransition}
 use Rattle.counters.specs.Counts.{Entry, rowOf, setCount}
@@ -91,7 +90,7 @@ module _ (x : CounterTransition) where
         go : (b d : Bool) → lands x ≡ b → elem i ks ≡ d → all (comes ks) (pick (b && not d) (putRows index i (suc i) (rowOf i m) ns) ns) ≡ true
         go true true l e = c
         go true false l e =
-            putRows-all index (comes ks) i (suc i) (rowOf i m) ns (row-comes ks i m (leb-true 2 m (and-right (changes x) (leb 2 m) l)) e) c
+            all-put index i (suc i) (rowOf i m) ns (comes ks) c (row-comes ks i m (leb-true 2 m (and-right (changes x) (leb 2 m) l)) e)
         go false d l e = c
 
     -- set among all of them, or laid aside, or replaced: the same

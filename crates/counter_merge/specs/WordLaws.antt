@@ -19,7 +19,8 @@ use Rattle.rows.specs.TableLaws.{rowsOf-words, length-words, length-rowsOf, wor
 use Rattle.counters.specs.Counts.{Entry}
 use Rattle.counters.specs.Layout.{countRow}
 use Rattle.counters.specs.CodingLaws.{count-lawful}
-use Rattle.counters.specs.RowLaws.{rowAt, from-row}
+use Rattle.counters.specs.RowLaws.{from-row}
+use Rattle.counters.specs.Steps.{rowAt}
 use Rattle.counter_merge.specs.Passes.{stands, standing}
 
 -- ---- a row written word by word

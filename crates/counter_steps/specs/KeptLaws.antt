@@ -1,6 +1,6 @@
 -- A batch that passed every test, applied in two passes over the table: first what leaves no row, then what leaves one.
 -- Assumes nothing.
-use mathlib.Core.Path.{_≡_, refl, sym, ap, _∙_}
+use mathlib.Core.Path.{_≡_, _∙_}
 use mathlib.Core.Bool.{true, false}
 use mathlib.Core.List.{List}
 use Prim.Native.Nat.{ℕ, _+_, _-_, _*_, _≤_}
@@ -12,7 +12,6 @@ use Rattle.rows.specs.Table.{rowsOf}
 use Rattle.rows.specs.TableLaws.{rowsOf-table, length-table, length-rowsOf}
 use Rattle.counters.specs.declared.Counters.{Counters}
 use Rattle.counters.specs.declared.CounterMaintenance.{CounterMaintenance}
-use Rattle.counters.specs.declared.CounterTransition.{CounterTransition}
 use Rattle.counters.specs.Counts.{Entry}
 use Rattle.counters.specs.Maintenance.{maintained}
 use Rattle.counters.specs.Batch.{birth, death, kept, births, deaths, countsAfter, stateAfter}

@@ -123,7 +123,7 @@ pub fn apply_some(t: &mut [u64], n: usize, b: &[u64], many: bool) -> usize
 
 // The sets' removal counts, grown by the bits that kept transitions clear.
 fn grown_sets(b: &[u64], removed: [u64; 8]) -> [u64; 8]
-    ensures { λ r. ⌜ r ≡ grownSets (kept (transitions (now (b .entry)))) 0 removed ⌝ }
+    ensures { λ r. ⌜ r ≡ grownSets (kept (transitions (now (b .entry)))) removed ⌝ }
 {
     let mut small = [0u64; 8];
     let mut k = 0;

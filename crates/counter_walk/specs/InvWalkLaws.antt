@@ -28,11 +28,12 @@ use Rattle.counter_walk.specs.Words.{wordsOf, words-transitions}
 use Rattle.counter_walk.specs.SumsWalkLaws.{sumsOf, noSums}
 use Rattle.counter_walk.specs.Walk.{finished}
 
--- what the types of the arguments bound: lengths, and removal counts of 64 bits, which a batch with no removal leaves as they are
+-- what the types of the arguments bound: lengths, and eight removal counts of 64 bits, which a batch with no removal leaves as they are
 pub record Limits (c : Counters) (t₀ : List ℕ) (bs : List CounterTransition) : Type 0 where
   pub records : length bs < 2 ^ 61
   pub words : length t₀ < 2 ^ 62
   pub alive : c .maintenance .«alive_removed_since_shrink» < 2 ^ 64
+  pub sets : length (c .maintenance .«small_removed_since_shrink») ≡ 8
   pub small : (i : ℕ) → i < length (c .maintenance .«small_removed_since_shrink») → getD (c .maintenance .«small_removed_since_shrink») i 0 < 2 ^ 64
 
 -- the counts that the table has at entry

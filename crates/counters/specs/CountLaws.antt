@@ -14,7 +14,8 @@ use Rattle.base.specs.Laws.{and-left, and-right, and-both, ascending-head, asce
 use Rattle.base.specs.ListLaws.{all-weaker}
 use Rattle.counters.specs.Counts.{Entry, storedAt, countAt, rowOf, setCount}
 use Rattle.counters.specs.Layout.{sound, ordered}
-use Rattle.rows.specs.OrderLaws.{within, putRows-all, putRows-again, putRows-ascending, putRows-swap}
+use Rattle.rows.specs.OrderLaws.{within, putRows-again, putRows-ascending, putRows-swap}
+use Rattle.rows.specs.RowLaws.{all-put}
 use Rattle.rows.specs.KeyLaws.{putRows}
 
 -- what a count stores: 0 and 1 store nothing
@@ -247,7 +248,7 @@ module _ (next : ℕ) where
     ordered-setCount i n h =
         and-both (ascendingFrom 0 (map index (setCount i n es))) (all (sound next) (setCount i n es))
         (putRows-ascending index i (suc i) (rowOf i n) es (omega arith) (row-within i n) (row-ascending i n) ascends)
-        (putRows-all index (sound next) i (suc i) (rowOf i n) es (row-sound i n next h) sounds)
+        (all-put index i (suc i) (rowOf i n) es (sound next) sounds (row-sound i n next h))
 
 -- ---- counts in order that agree at every index are the same
 -- the first rows of both: neither index is before the other

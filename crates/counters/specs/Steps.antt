@@ -1,11 +1,16 @@
--- The transitions that lent words spell.
+-- The counts and the transitions that lent words spell, one by one.
 -- Assumes nothing.
 use Prim.Native.Nat.{ℕ, _+_, _*_, _/_}
 use mathlib.Core.List.{List}
 use lib.ListN.{length, getD}
 use Rattle.rows.specs.Table.{rowsOf}
 use Rattle.counters.specs.declared.CounterTransition.{CounterTransition}
+use Rattle.counters.specs.Counts.{Entry}
 use Rattle.counters.specs.Layout.{transitionRow}
+
+-- row k of a table
+abbrev pub rowAt : List ℕ → ℕ → Entry
+rowAt t k = record { idx = getD t (k * 2) 0; count = getD t (k * 2 + 1) 0 }
 
 -- a transition of an index, an old and a new count
 abbrev pub transition : ℕ → ℕ → ℕ → CounterTransition

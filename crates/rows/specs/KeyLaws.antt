@@ -1,20 +1,19 @@
 -- Laws of the place of a key among keys in order, and of rows put there.
 -- Assumes nothing.
-use mathlib.Core.Path.{_≡_, refl, sym, ap, _∙_}
+use mathlib.Core.Path.{_≡_, refl, ap, _∙_}
 use mathlib.Core.Bool.{true, false}
 use mathlib.Core.List.{List, [], _∷_, _++_, map}
-use Prim.Native.Nat.{ℕ, zero, suc, _+_, _*_, _-_, _≤_, _<_, zero-le, suc-le-suc}
+use Prim.Native.Nat.{ℕ, zero, suc, _+_, _*_, _≤_, _<_, zero-le, suc-le-suc}
 use native.Mathlib.Nat.{suc-mul, zero-mul}
 use native.Mathlib.Omega.{arith}
 use native.Mathlib.Decide.{decLe}
 use lib.Dec.{leb, ltb}
-use borrow.Author.Tests.{le-ltb, lt-ltb, le-leb, lt-leb, leb-true}
-use lib.ListN.{length, take, drop, getD, length-append, length-drop, length-map}
-use lib.Seq.{drop-drop, getD-drop, length-take-le}
-use Rattle.base.specs.Logic.{pick, keep, ascendingFrom, sortedFrom}
-use Rattle.base.specs.Laws.{and-left, and-right, and-both, sorted-head, sorted-tail, ascending-head, ascending-tail}
+use borrow.Author.Tests.{le-ltb, lt-ltb, le-leb, lt-leb}
+use lib.ListN.{length, take, drop, getD}
+use lib.Seq.{drop-drop, getD-drop}
+use Rattle.base.specs.Logic.{keep, ascendingFrom, sortedFrom}
+use Rattle.base.specs.Laws.{sorted-head, sorted-tail, ascending-head, ascending-tail}
 use Rattle.rows.specs.Table.{Coding, rowsOf}
-use Rattle.rows.specs.TableLaws.{length-rowsOf}
 use Rattle.rows.specs.Keys.{keys, firstWord, place}
 
 -- ---- the place

@@ -22,14 +22,15 @@ use Rattle.snapshot_judge.specs.declared.decide.Plan.{Plan}
 use Rattle.snapshot_judge.specs.declared.decide.Verdict.{Verdict}
 use Rattle.snapshot_judge.specs.declared.decide.Verdict.the-variants.{Fits, Refused}
 use Rattle.snapshot_judge.specs.declared.judge.Judged.{Judged}
-use Rattle.snapshot_tiers.specs.Payloads.{restAfter, isTaken, sets-read}
-use Rattle.snapshot_tiers.specs.Heads.{rawOf, setAll, clashes}
-use Rattle.snapshot_tiers.specs.LargeLaws.{low, large-read}
+use Rattle.snapshot_tiers.specs.Payloads.{restAfter, isTaken}
+use Rattle.snapshot_tiers.specs.PayloadLaws.{sets-read}
+use Rattle.snapshot_tiers.specs.Heads.{low, rawOf, setAll, clashes}
+use Rattle.snapshot_tiers.specs.LargeLaws.{large-read}
 use Rattle.snapshot_lanes.specs.declared.sets.End.{End}
 use Rattle.snapshot_lanes.specs.declared.sets.End.the-variants.{At, Torn, Bad}
 use Rattle.snapshot_lanes.specs.Ends.{setsEnd}
 use Rattle.snapshot_lanes.specs.EndLaws.{Ended, ended}
-use Rattle.snapshot_judge.specs.Judge.{Readable, smallOf, bigOf, far, judgedFrom}
+use Rattle.snapshot_judge.specs.Judge.{smallOf, bigOf, far, judgedFrom}
 use Rattle.snapshot_judge.specs.Decide.{countsOf, Planned, Reached, planOf, verdict, verdictOf}
 
 -- the numbers that follow the version

@@ -28,8 +28,8 @@ use Rattle.snapshot.specs.Calls.{deserializeCall}
 use Rattle.snapshot_tiers.specs.declared.Head.{Head}
 use Rattle.snapshot_judge.specs.declared.decide.Plan.{Plan}
 use Rattle.snapshot_judge.specs.declared.decide.Verdict.the-variants as verdicts
-use Rattle.snapshot_tiers.specs.TierLaws.{entry, fromIdx, tierOf}
-use Rattle.snapshot_tiers.specs.Heads.{setAll}
+use Rattle.snapshot_tiers.specs.TierLaws.{fromIdx}
+use Rattle.snapshot_tiers.specs.Heads.{entry, tierOf, setAll}
 use Rattle.snapshot_tiers.specs.JoinLaws.{Front, restOf}
 use Rattle.snapshot_judge.specs.Judge.{far}
 use Rattle.snapshot_judge.specs.Decide.{countsOf, Planned}

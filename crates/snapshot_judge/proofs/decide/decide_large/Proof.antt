@@ -2,8 +2,7 @@ use mathlib.Core.Path.{subst}
 use Rattle.base.specs.declared.Refusal.the-variants.{TableFull, BadLarge, TierClash}
 use Prim.Native.Nat.{_/_, _%_}
 use Rattle.base.specs.Logic.{any}
-use Rattle.snapshot_tiers.specs.Heads.{rawOf}
-use Rattle.snapshot_tiers.specs.LargeLaws.{low}
+use Rattle.snapshot_tiers.specs.Heads.{low, rawOf}
 use Rattle.snapshot_judge.specs.Judge.{bigOf, smallOf, judgedFrom}
 use Rattle.snapshot_judge.specs.DecideLaws.{nextOf, judged-rows, reached-taken, read-ragged, read-low, read-clash, read-full, read-fits, verdict-refused, verdict-fits}
 use mathlib.Core.Path.{_≡_, sym, _∙_}
