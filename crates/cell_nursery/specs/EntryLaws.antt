@@ -8,13 +8,14 @@ use Prim.Native.Nat.{ℕ, zero, suc, _+_, _^_, _≤_, _<_}
 use native.Mathlib.Omega.{arith}
 use native.Mathlib.Decide.{decLe, ℕ-discrete}
 use lib.ListN.{length, getD, length-map}
-use lib.Dec.{leb, ltb, eqb, leb·suc-suc}
+use lib.Dec.{leb, ltb, eqb}
 use borrow.Author.Tests.{lt-ltb, le-ltb, le-leb, lt-leb, eq-eqb, ne-eqb, eqb-false, ltb-false}
 use Rattle.base.specs.Logic.{pick, all, any, elem, fold, keep, sumOf, ascending, ascendingFrom, sortedFrom}
 use Rattle.base.specs.Maybe.{maybe}
 use Rattle.base.specs.Laws.{and-left, and-right, ascending-tail, ascending-sorted}
 use Rattle.rows.specs.KeyLaws.{putRows, sorted-over}
-use Rattle.cell_nursery.specs.Entries.{Entry, Waiting, State, empty, cellBytes, putEntry, putWaiting, insert, remove}
+use Rattle.cell_nursery.specs.Entries.{Entry, Waiting, State, empty, cellBytes, putEntry, insert, remove}
+use Rattle.cell_nursery.specs.PutLaws.{putWaiting-rows}
 use Rattle.cell_nursery.specs.Items.{Delta}
 use Rattle.cell_nursery.specs.Delta.{Room, used, full, stateAfter}
 use Rattle.cell_nursery.specs.Drain.{due, drained, lookup}
@@ -132,11 +133,6 @@ entryAt-miss h [] a = refl
 entryAt-miss h (e ∷ es) a =
     let ne = eqb-false h (e .hash) (or-left _ _ a) in
     rw (ne-eqb (e .hash) h (omega (arith, ne))) (entryAt-miss h es (or-right (eqb h (e .hash)) _ a))
-
--- ---- a waiting row put in its place, as the laws of rows have it
-pub putWaiting-rows : (w : Waiting) (ws : List Waiting) → putWaiting w ws ≡ putRows (λ x. x .born) (suc (w .born)) (suc (w .born)) (w ∷ []) ws
-unfolding putWaiting putRows
-putWaiting-rows w ws = simp leb·suc-suc
 
 -- ---- how many rows and bytes
 

@@ -24,7 +24,8 @@ use Rattle.cell_nursery.specs.Layout.{hashOf, hashAt, EntryRow, entryRow
 use Rattle.base.specs.SumLaws.{sum-append}
 use Rattle.rows.specs.RowLaws.{elem-miss, put-absent, keep-all, keep-hit, map-put}
 use Rattle.cell_nursery.specs.HashLaws.{words-hash, U64, u64-drop, words-at}
-use Rattle.cell_nursery.specs.EntryLaws.{putWaiting-rows, lookup-entryAt, entryAt-hit, entryAt-miss, bytes-insert}
+use Rattle.cell_nursery.specs.PutLaws.{putWaiting-rows}
+use Rattle.cell_nursery.specs.EntryLaws.{lookup-entryAt, entryAt-hit, entryAt-miss, bytes-insert}
 use Rattle.cell_nursery.specs.LayoutLaws.{length-cells, EntriesHeld, WaitingHeld, CellsHeld, number-entries, entries-keys, cells-same, bytes-same, rows-same, waiters-same}
 use Rattle.cell_nursery.specs.CodingLaws.{waiting-lawful}
 

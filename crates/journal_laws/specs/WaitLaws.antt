@@ -23,7 +23,8 @@ use Rattle.cell_nursery.specs.Entries.{Entry, Waiting, State, empty, putEntry, 
 use Rattle.cell_nursery.specs.Items.{Delta}
 use Rattle.cell_nursery.specs.Delta.{present, used, stateAfter}
 use Rattle.cell_nursery.specs.Drain.{due, drained}
-use Rattle.cell_nursery.specs.EntryLaws.{putWaiting-rows, entryAt, elem-entryAt, entryAt-put, entryAt-miss}
+use Rattle.cell_nursery.specs.PutLaws.{putWaiting-rows}
+use Rattle.cell_nursery.specs.EntryLaws.{entryAt, elem-entryAt, entryAt-put, entryAt-miss}
 
 -- ---- a list in two parts
 module _ {A : Type 0} where

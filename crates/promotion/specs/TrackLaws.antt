@@ -18,7 +18,8 @@ use Rattle.cell_nursery.specs.Items.{Delta}
 use Rattle.cell_nursery.specs.Delta.{present, stateAfter}
 use Rattle.cell_nursery.specs.Drain.{due, named, promoted, drained}
 use Rattle.cell_nursery.specs.DrainLaws.{named-entryAt, named-rows}
-use Rattle.cell_nursery.specs.EntryLaws.{putWaiting-rows, entryAt, elem-entryAt, entryAt-put, entryAt-removed}
+use Rattle.cell_nursery.specs.PutLaws.{putWaiting-rows}
+use Rattle.cell_nursery.specs.EntryLaws.{entryAt, elem-entryAt, entryAt-put, entryAt-removed}
 use Rattle.journal_laws.specs.WaitLaws.{waiterFor, Waits, waits-absent}
 use Rattle.promotion.specs.Promotion.{withHash}
 
