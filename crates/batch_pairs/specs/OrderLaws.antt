@@ -1,11 +1,11 @@
 -- Kept transitions of two batches, each taken before and after the other, come to the same in either order.
 -- Assumes nothing.
-use mathlib.Core.Path.{_≡_, refl, sym, ap₂, _∙_}
+use mathlib.Core.Path.{_≡_, refl, sym, ap, _∙_}
 use mathlib.Core.Bool.{Bool, true, false}
-use mathlib.Core.List.{List, [], _∷_}
-use Prim.Native.Nat.{ℕ, suc, _+_, _-_}
+use mathlib.Core.List.{List}
+use Prim.Native.Nat.{ℕ, _+_, _-_}
 use native.Mathlib.Omega.{arith}
-use lib.ListN.{length}
+use lib.ListN.{length, getD}
 use Rattle.base.specs.Logic.{any, keep, elem, repeated}
 use Rattle.base.specs.ListLaws.{some-one, elem-some, none-passes}
 use Rattle.counters.specs.declared.CounterTransition.{CounterTransition}
@@ -14,6 +14,8 @@ use Rattle.counters.specs.Counts.{Entry, State, storedAt}
 use Rattle.counters.specs.Maintenance.{grown, grownSets, maintained, falls, clears}
 use Rattle.counters.specs.Batch.{named, births, deaths, falseOld, countsAfter, stateAfter}
 use Rattle.counters.specs.Layout.{ordered}
+use Rattle.counters.specs.EachLaws.{each-same}
+use Rattle.counters.specs.MaintenanceLaws.{grown-at}
 use Rattle.counters.specs.CountLaws.{same-stored}
 use Rattle.counters.specs.BatchLaws.{stored-unnamed, old-stored, ordered-countsAfter}
 use Rattle.counters.specs.JudgeLaws.{total-within}
@@ -24,16 +26,18 @@ grown-either : (r a b : ℕ) → grown (grown r a) b ≡ grown (grown r b) a
 unfolding grown
 grown-either r a b = omega arith
 
-sets-either : (ks ls : List CounterTransition) (k : ℕ) (rs : List ℕ) → grownSets ls k (grownSets ks k rs) ≡ grownSets ks k (grownSets ls k rs)
+sets-either : (ks ls : List CounterTransition) (rs : List ℕ) → grownSets ls (grownSets ks rs) ≡ grownSets ks (grownSets ls rs)
 unfolding grownSets
-sets-either ks ls k [] = refl
-sets-either ks ls k (r ∷ rs) =
-    ap₂ (λ (x : ℕ) (xs : List ℕ). x ∷ xs) (grown-either r (length (keep (clears k) ks)) (length (keep (clears k) ls))) (sets-either ks ls (suc k) rs)
+sets-either ks ls rs =
+    each-same (λ k. grown (getD (grownSets ks rs) k 0) (length (keep (clears k) ls))) (λ k. grown (getD (grownSets ls rs) k 0) (length (keep (clears k) ks))) 0 8 (λ k a b.
+    ap (λ (n : ℕ). grown n (length (keep (clears k) ls))) (grown-at ks rs k (omega arith))
+    ∙ grown-either (getD rs k 0) (length (keep (clears k) ks)) (length (keep (clears k) ls))
+    ∙ sym (ap (λ (n : ℕ). grown n (length (keep (clears k) ks))) (grown-at ls rs k (omega arith))))
 
 maintained-either : (ks ls : List CounterTransition) (m : CounterMaintenance) → maintained ls (maintained ks m) ≡ maintained ks (maintained ls m)
 unfolding maintained
 maintained-either ks ls m =
-    rw (grown-either (m .«alive_removed_since_shrink») (length (keep falls ks)) (length (keep falls ls)), sets-either ks ls 0 (m .«small_removed_since_shrink»))
+    rw (grown-either (m .«alive_removed_since_shrink») (length (keep falls ks)) (length (keep falls ls)), sets-either ks ls (m .«small_removed_since_shrink»))
 
 -- ---- the counts
 -- transitions leave at an index that they name what they leave there on other counts

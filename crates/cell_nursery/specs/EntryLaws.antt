@@ -13,9 +13,9 @@ use borrow.Author.Tests.{lt-ltb, le-ltb, le-leb, lt-leb, eq-eqb, ne-eqb, eqb-fal
 use Rattle.base.specs.Logic.{pick, all, any, elem, fold, keep, repeated, sumOf, ascending, ascendingFrom, sortedFrom}
 use Rattle.base.specs.Maybe.{maybe}
 use Rattle.base.specs.Laws.{and-left, and-right, ascending-tail, ascending-sorted}
-use Rattle.rows.specs.Keys.{putRows}
-use Rattle.rows.specs.KeyLaws.{sorted-over}
-use Rattle.cell_nursery.specs.Entries.{Entry, Waiting, State, empty, tied, cellBytes, putEntry, putWaiting, insert, remove}
+use Rattle.rows.specs.KeyLaws.{putRows, sorted-over}
+use Rattle.cell_nursery.specs.Entries.{Entry, Waiting, State, empty, tied, cellBytes, putEntry, insert, remove}
+use Rattle.cell_nursery.specs.PutLaws.{putWaiting-rows}
 use Rattle.cell_nursery.specs.Items.{Delta}
 use Rattle.cell_nursery.specs.Delta.{Room, present, full, stateAfter}
 use Rattle.cell_nursery.specs.Drain.{due, drained, lookup}
@@ -140,16 +140,18 @@ entryAt-miss h (e ∷ es) a =
 module _ (e : Entry) (s : State) where
   -- an entry of a hash that was there gives way
   bytes-put : cellBytes (insert e s .entries) + cellBytes (keep (λ x. eqb (x .hash) (e .hash)) (s .entries)) ≡ length (e .cell) + cellBytes (s .entries)
-  unfolding insert putEntry cellBytes
+  unfolding insert putEntry cellBytes putRows
   bytes-put = sum-put (λ x. x .hash) (λ x. length (x .cell)) (e .hash) (e ∷ []) (s .entries) ∙ unfold sumOf in (omega arith)
 
   number-put : length (insert e s .entries) + length (keep (λ x. eqb (x .hash) (e .hash)) (s .entries)) ≡ suc (length (s .entries))
-  unfolding insert putEntry
+  unfolding insert putEntry putRows
   number-put = length-put (λ x. x .hash) (e .hash) (e ∷ []) (s .entries) ∙ omega arith
 
   pub waiting-insert : length (insert e s .waiting) ≡ suc (length (s .waiting))
-  unfolding insert putWaiting
-  waiting-insert = length-put-between (λ w. w .born) (suc (e .born)) (record { born = e .born; hash = e .hash } ∷ []) (s .waiting) ∙ omega arith
+  unfolding insert
+  waiting-insert =
+      ap length (putWaiting-rows (record { born = e .born; hash = e .hash }) (s .waiting))
+      ∙ length-put-between (λ w. w .born) (suc (e .born)) (record { born = e .born; hash = e .hash } ∷ []) (s .waiting) ∙ omega arith
 
   -- at most one row and the cell's bytes more
   pub bytes-insert-le : cellBytes (insert e s .entries) ≤ cellBytes (s .entries) + length (e .cell)
@@ -183,12 +185,14 @@ module _ (h : ℕ) (s : State) where
 -- ---- the order
 module _ (e : Entry) (s : State) where
   pub hashes-insert : ascending (map (λ x. x .hash) (s .entries)) ≡ true → ascending (map (λ x. x .hash) (insert e s .entries)) ≡ true
-  unfolding insert putEntry
+  unfolding insert putEntry putRows
   hashes-insert o = put-one-ascending (λ x. x .hash) e (s .entries) o
 
   pub rounds-insert : sortedFrom 0 (map (λ w. w .born) (s .waiting)) ≡ true → sortedFrom 0 (map (λ w. w .born) (insert e s .waiting)) ≡ true
-  unfolding insert putWaiting
-  rounds-insert o = put-one-sorted (λ w. w .born) (record { born = e .born; hash = e .hash }) (s .waiting) o
+  unfolding insert
+  rounds-insert o =
+      let w : Waiting = record { born = e .born; hash = e .hash } in
+      rw (putWaiting-rows w (s .waiting)) (put-one-sorted (λ x. x .born) w (s .waiting) o)
 
 module _ (h : ℕ) (s : State) where
   pub hashes-remove : ascending (map (λ e. e .hash) (s .entries)) ≡ true → ascending (map (λ e. e .hash) (remove h s .entries)) ≡ true
@@ -210,14 +214,16 @@ unfolding empty tied ascendingFrom sortedFrom all repeated
 well-empty = record { hashes = refl; entries = refl; rounds = refl; waiting = refl; ties = refl }
 
 pub well-insert : (e : Entry) (s : State) → fitsItem e ≡ true → elem (e .hash) (map (λ x. x .hash) (s .entries)) ≡ false → WellFormed s → WellFormed (insert e s)
-unfolding insert putEntry putWaiting
+unfolding insert putEntry putRows
 well-insert e s f a w =
     let x : Waiting = record { born = e .born; hash = e .hash } in
     record {
       hashes = hashes-insert e s (w .hashes);
       entries = all-put (λ y. y .hash) (e .hash) (suc (e .hash)) (e ∷ []) (s .entries) fitsItem (w .entries) (all-one fitsItem e f);
       rounds = rounds-insert e s (w .rounds);
-      waiting = all-put (λ y. y .born) (suc (e .born)) (suc (e .born)) (x ∷ []) (s .waiting) fitsWaiting (w .waiting) (all-one fitsWaiting x (waiter-fits e f));
+      waiting =
+          rw (putWaiting-rows x (s .waiting))
+          (all-put (λ y. y .born) (suc (e .born)) (suc (e .born)) (x ∷ []) (s .waiting) fitsWaiting (w .waiting) (all-one fitsWaiting x (waiter-fits e f)));
       ties = waits-tied (insert e s) (hashes-insert e s (w .hashes)) (goneOf s) (waits-insert (goneOf s) e s a (tied-waits s (w .hashes) (w .ties)));
     }
 

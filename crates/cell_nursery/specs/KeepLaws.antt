@@ -22,6 +22,7 @@ use Rattle.rows.specs.Keys.{firstFour}
 use Rattle.rows.specs.Wide.{keyOf}
 use Rattle.rows.specs.WideLaws.{Words, by-first, by-second, by-third, by-fourth}
 use Rattle.cell_nursery.specs.Layout.{hashOf, hashAt, WaitingRow, waitingRow}
+use Rattle.cell_nursery.specs.CodingLaws.{waiting-lawful}
 
 -- the hash of a waiting row whose words begin at a place
 pub hash-behind : (a : ℕ) (t : List ℕ) → hashOf (hashAt 1 (drop a t)) ≡ firstFour (drop (a + 1) t)
@@ -140,7 +141,7 @@ module _ (p : WaitingRow → Bool) (n : ℕ) (t₀ : List ℕ) (fits : n * 5 ≤
           size = length-paste t (j * 5) (drop (i * 5) t) 5 (omega arith) enough ∙ size;
           number = rw kept (simp length-append (omega (arith, m .number)));
           front =
-              rw (kept, q₂, take-paste t (j * 5) (drop (i * 5) t) 5 there enough, m .front, ← waitingRow .forth (drop (i * 5) t) enough)
+              rw (kept, q₂, take-paste t (j * 5) (drop (i * 5) t) 5 there enough, m .front, ← waiting-lawful .forth (drop (i * 5) t) enough)
               (sym (flat-append (waitingRow .enc) old (r ∷ [])));
           behind =
               rw (q, drop-paste-after t (j * 5) (drop (i * 5) t) 5 there enough (i * 5 + 5) (omega arith), ← drop-drop 5 (i * 5) t, m .behind) (drop-drop 5 (i * 5) t₀);

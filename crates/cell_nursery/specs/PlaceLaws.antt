@@ -12,6 +12,7 @@ use Rattle.rows.specs.Table.{rowsOf, tableOf, Laid}
 use Rattle.rows.specs.TableLaws.{length-rowsOf, drop-row, holds-laid, replaced, table-rowsOf, inserted, removed}
 use Rattle.rows.specs.RowLaws.{IsTable, is-table}
 use Rattle.cell_nursery.specs.Layout.{EntryRow, entryRow}
+use Rattle.cell_nursery.specs.CodingLaws.{entry-lawful}
 
 -- a row with its cell at another place
 abbrev pub moved : (ℕ → ℕ) → EntryRow → EntryRow
@@ -27,7 +28,7 @@ place-set : (t : List ℕ) (i v : ℕ) (r : EntryRow) → r ≡ entryRow .dec (d
 place-set t i v r is h =
     let a : ℕ = i * 8 in
     let long : 8 ≤ length (drop a t) = rw (length-drop a t) (omega arith) in
-    let parts : drop a t ≡ entryRow .enc r ++ drop 8 (drop a t) = sym (take-append-drop 8 (drop a t)) ∙ ap (λ (l : List ℕ). l ++ drop 8 (drop a t)) (sym (entryRow .forth (drop a t) long)) ∙ rw is in
+    let parts : drop a t ≡ entryRow .enc r ++ drop 8 (drop a t) = sym (take-append-drop 8 (drop a t)) ∙ ap (λ (l : List ℕ). l ++ drop 8 (drop a t)) (sym (entry-lawful .forth (drop a t) long)) ∙ rw is in
     let after : drop a (set t (a + 6) v) ≡ entryRow .enc (moved (λ p. v) r) ++ drop 8 (drop a t) = drop-set-add a t 6 v ∙ ap (λ (l : List ℕ). set l 6 v) parts in
     sym (take-append-drop a (set t (a + 6) v)) ∙ rw (take-set-le a t (a + 6) v (omega arith), after, drop-drop 8 a t)
 
@@ -59,8 +60,8 @@ module _ (g : ℕ → ℕ) (n k : ℕ) (t₀ : List ℕ) where
         let count : length rs ≡ n = length-rowsOf entryRow n t in
         let front : length (take i rs) ≡ i = length-take-le i rs (omega arith) in
         let number : length new ≡ n = simp (length-append, length-drop) (omega (arith, front)) in
-        let is : set t (a + 6) v ≡ tableOf entryRow (length t) new = place-set t i v r refl (omega arith) ∙ ap (λ (x : EntryRow). take a t ++ (entryRow .enc x ++ drop (a + 8) t)) same ∙ replaced entryRow n t (m .laid) i e l in
-        let table : IsTable entryRow n (length t) new (set t (a + 6) v) = rw is (is-table entryRow n (length t) new number (f)) in
+        let is : set t (a + 6) v ≡ tableOf entryRow (length t) new = place-set t i v r refl (omega arith) ∙ ap (λ (x : EntryRow). take a t ++ (entryRow .enc x ++ drop (a + 8) t)) same ∙ replaced entry-lawful n t (m .laid) i e l in
+        let table : IsTable entryRow n (length t) new (set t (a + 6) v) = rw is (is-table entry-lawful n (length t) new number (f)) in
         let one : take (suc i) new ≡ take i rs ++ (e ∷ []) = ap (λ (x : List EntryRow). take (suc i) x) (sym (append-assoc (take i rs) (e ∷ []) (drop (suc i) rs))) ∙ take-at (take i rs ++ (e ∷ [])) (drop (suc i) rs) (suc i) (simp length-append (omega (arith, front))) in
         let two : drop (suc i) new ≡ drop (suc i) rs = ap (λ (x : List EntryRow). drop (suc i) x) (sym (append-assoc (take i rs) (e ∷ []) (drop (suc i) rs))) ∙ drop-at (take i rs ++ (e ∷ [])) (drop (suc i) rs) (suc i) (simp length-append (omega (arith, front))) in
         let whole : movedFrom g (suc i) new ≡ movedFrom g i rs = rw (one, two, drop-row entryRow n t i l) (append-snoc (take i rs) e (map (moved g) (drop (suc i) rs))) in
@@ -79,14 +80,14 @@ module _ (g : ℕ → ℕ) (n k : ℕ) (t₀ : List ℕ) where
         let past : length (rowsOf entryRow n t) ≤ i = omega arith in
         let all-there : movedFrom g i (rowsOf entryRow n t) ≡ rowsOf entryRow n t =
         rw (take-all i (rowsOf entryRow n t) (omega arith), drop-of-length-le (rowsOf entryRow n t) past) (append-nil (rowsOf entryRow n t)) in
-        sym (rw (← m .left, all-there, ← m .size) (table-rowsOf entryRow n t (m .laid)))
+        sym (rw (← m .left, all-there, ← m .size) (table-rowsOf entry-lawful n t (m .laid)))
 
 -- ---- a row that goes in, and one that goes, once the places behind it are written
 module _ (g : ℕ → ℕ) (n k : ℕ) (t s : List ℕ) (laid : Laid 8 n t) where
   the-moved : (j : ℕ) → j ≤ n → s ≡ tableOf entryRow (length t) (movedFrom g j (rowsOf entryRow n t)) → IsTable entryRow n (length t) (movedFrom g j (rowsOf entryRow n t)) s
   the-moved j h e =
       let count : length (rowsOf entryRow n t) ≡ n = length-rowsOf entryRow n t in
-      rw e (is-table entryRow n (length t) (movedFrom g j (rowsOf entryRow n t)) (simp (length-append, length-map, length-drop, length-take) (omega arith)) (laid .fits))
+      rw e (is-table entry-lawful n (length t) (movedFrom g j (rowsOf entryRow n t)) (simp (length-append, length-map, length-drop, length-take) (omega arith)) (laid .fits))
 
   pub row-in : k ≤ n → s ≡ tableOf entryRow (length t) (movedFrom g k (rowsOf entryRow n t)) → (e : EntryRow) → n * 8 + 8 ≤ length t
       → take (k * 8) s ++ (entryRow .enc e ++ (take (n * 8 - k * 8) (drop (k * 8) s) ++ drop (n * 8 + 8) s))
@@ -96,7 +97,7 @@ module _ (g : ℕ → ℕ) (n k : ℕ) (t s : List ℕ) (laid : Laid 8 n t) wher
       let table = the-moved k h is in
       let count : length rs ≡ n = length-rowsOf entryRow n t in
       let front : length (take k rs) ≡ k = length-take-le k rs (omega arith) in
-      inserted entryRow n s (holds-laid 8 n s (table .holds)) k e h (omega (arith, table .size))
+      inserted entry-lawful n s (holds-laid 8 n s (table .holds)) k e h (omega (arith, table .size))
       ∙ rw (table .size, table .spells, take-at (take k rs) (map (moved g) (drop k rs)) k front, drop-at (take k rs) (map (moved g) (drop k rs)) k front)
 
   pub row-out : k < n → s ≡ tableOf entryRow (length t) (movedFrom g (suc k) (rowsOf entryRow n t))
@@ -107,7 +108,7 @@ module _ (g : ℕ → ℕ) (n k : ℕ) (t s : List ℕ) (laid : Laid 8 n t) wher
       let table = the-moved (suc k) h is in
       let count : length rs ≡ n = length-rowsOf entryRow n t in
       let front : length (take (suc k) rs) ≡ suc k = length-take-le (suc k) rs (omega arith) in
-      removed entryRow n s (holds-laid 8 n s (table .holds)) k h
+      removed entry-lawful n s (holds-laid 8 n s (table .holds)) k h
       ∙ rw (
         table .size,
         table .spells,

@@ -28,6 +28,7 @@ use Rattle.cell_nursery.specs.Calls.{onState, drainEffect, drainedOut, d
 use Rattle.cell_nursery.specs.HashLaws.{U64, hash-first}
 use Rattle.cell_nursery.specs.EntryLaws.{entryAt-hit, entryAt-miss}
 use Rattle.cell_nursery.specs.LayoutLaws.{EntriesHeld, WaitingHeld, CellsHeld, number-entries, entries-keys, bytes-same, number-waiting, waiting-keys, waiters-same}
+use Rattle.cell_nursery.specs.CodingLaws.{waiting-lawful}
 use Rattle.cell_nursery.specs.DrainLaws.{due-first, due-rest, due-none, due-all-rest, named-entryAt}
 use Rattle.cell_nursery.specs.CheckLaws.{entryAtRow, waiterAtRow, waiting-row}
 use Rattle.cell_nursery.specs.SearchLaws.{indexOf, index-found, index-none}
@@ -231,7 +232,7 @@ module _ (delay round : ℕ) (r : Nursery) (es ws cs : List ℕ) where
         let c : k * 5 + (length ws - n * 5) ≡ length ws - (n - k) * 5 = omega arith in
         let m : (n - k) * 5 ≤ length (drop (k * 5) ws) = simp length-drop (omega arith) in
         let wide : length (rowsOf waitingRow (n - k) (drop (k * 5) ws)) ≡ n - k = length-rowsOf waitingRow (n - k) (drop (k * 5) ws) in
-        rw (due-drop delay round r ws y k number, rows, words-rowsOf waitingRow (n - k) (drop (k * 5) ws) m, wide, a, b, y .laid .rest, replicate-append-replicate {A = ℕ} (k * 5) (length ws - n * 5) 0, c)
+        rw (due-drop delay round r ws y k number, rows, words-rowsOf waiting-lawful (n - k) (drop (k * 5) ws) m, wide, a, b, y .laid .rest, replicate-append-replicate {A = ℕ} (k * 5) (length ws - n * 5) 0, c)
 
     module _ (out : List ℕ) (ok : holds r es ws cs ≡ true) where
       pub drain-full : length out < length (flat (handedOut (entriesOf (r .entries) es cs)) (take k (waitingOf (r .waiting) ws)))

@@ -15,7 +15,7 @@ use Rattle.base.specs.Laws.{drop-zeros, flat-append, ascending-sorted}
 use Rattle.rows.specs.Table.{rowsOf, tableOf}
 use Rattle.rows.specs.TableLaws.{row-at}
 use Rattle.rows.specs.Keys.{firstWord, firstFour, keys, place}
-use Rattle.rows.specs.KeyLaws.{length-keys, putRows-places}
+use Rattle.rows.specs.KeyLaws.{putRows, length-keys, putRows-places}
 use Rattle.rows.specs.PutLaws.{put-inserted}
 use Rattle.cell_nursery.specs.declared.Nursery.{Nursery}
 use Rattle.cell_nursery.specs.Entries.{Entry, Waiting, cellBytes, putEntry, putWaiting, insert, remove}
@@ -24,15 +24,17 @@ use Rattle.cell_nursery.specs.Layout.{hashOf, hashAt, EntryRow, entryRow
 use Rattle.base.specs.SumLaws.{sum-append}
 use Rattle.rows.specs.RowLaws.{elem-miss, put-absent, keep-all, keep-hit, map-put}
 use Rattle.cell_nursery.specs.HashLaws.{words-hash, U64, u64-drop, words-at}
+use Rattle.cell_nursery.specs.PutLaws.{putWaiting-rows}
 use Rattle.cell_nursery.specs.EntryLaws.{lookup-entryAt, entryAt-hit, entryAt-miss, bytes-insert}
 use Rattle.cell_nursery.specs.LayoutLaws.{length-cells, EntriesHeld, WaitingHeld, CellsHeld, number-entries, entries-keys, cells-same, bytes-same, rows-same, waiters-same}
+use Rattle.cell_nursery.specs.CodingLaws.{waiting-lawful}
 
 -- ---- the entries and the waiting rows
 module _ (es : List Entry) (o : ascending (map (λ x. x .hash) es) ≡ true) where
   -- an absent hash goes in at its place
   pub entries-put : (e : Entry) (k : ℕ) → k ≡ place (e .hash) (map (λ x. x .hash) es) → elem (e .hash) (map (λ x. x .hash) es) ≡ false
       → putEntry e es ≡ take k es ++ e ∷ drop k es
-  unfolding putEntry
+  unfolding putEntry putRows
   entries-put e k here a = put-absent (λ x. x .hash) (e .hash) (e ∷ []) es (ascending-sorted 0 (map (λ x. x .hash) es) o) a ∙ rw (← here)
 
   -- the entry that stands at its place goes
@@ -42,8 +44,7 @@ module _ (es : List Entry) (o : ascending (map (λ x. x .hash) es) ≡ true) whe
 
 pub waiting-put : (ws : List Waiting) → sortedFrom 0 (map (λ x. x .born) ws) ≡ true → (w : Waiting) (k : ℕ) → k ≡ place (suc (w .born)) (map (λ x. x .born) ws)
     → putWaiting w ws ≡ take k ws ++ w ∷ drop k ws
-unfolding putWaiting
-waiting-put ws o w k here = putRows-places (λ x. x .born) (suc (w .born)) (suc (w .born)) (w ∷ []) ws o ∙ rw (← here)
+waiting-put ws o w k here = putWaiting-rows w ws ∙ putRows-places (λ x. x .born) (suc (w .born)) (suc (w .born)) (w ∷ []) ws o ∙ rw (← here)
 
 -- ---- the rows of the entries
 
@@ -282,11 +283,12 @@ module _ (r : Nursery) (es ws cs : List ℕ) (x : EntriesHeld r es) (y : Waiting
   pub waiting-inserted : (e : Entry) (k : ℕ) → k ≡ place (suc (e .born)) (keys firstWord 5 (r .waiting) ws) → r .waiting * 5 + 5 ≤ length ws
       → take (k * 5) ws ++ (waitingRow .enc (waitingRowOf (record { born = e .born; hash = e .hash })) ++ (take (r .waiting * 5 - k * 5) (drop (k * 5) ws) ++ drop (r .waiting * 5 + 5) ws))
       ≡ waitingTable (length ws) (insert e (stateOf r es ws cs))
-  unfolding waitingTable insert stateOf putWaiting
+  unfolding waitingTable insert stateOf
   waiting-inserted e k here room =
       let w : Waiting = record { born = e .born; hash = e .hash } in
-      put-inserted waitingRow (λ q. q .born) firstWord (λ t. refl) (r .waiting) ws (y .laid) (y .rounds) (suc (e .born)) (suc (e .born)) k here here (waitingRowOf w) room
-      ∙ ap (λ (q : List WaitingRow). tableOf waitingRow (length ws) q) (sym (map-put (λ q. q .born) waitingRowOf (suc (e .born)) (suc (e .born)) (w ∷ []) (waitingOf (r .waiting) ws)
+      put-inserted waiting-lawful (λ q. q .born) firstWord (λ t. refl) (r .waiting) ws (y .laid) (y .rounds) (suc (e .born)) (suc (e .born)) k here here (waitingRowOf w) room
+      ∙ ap (λ (q : List WaitingRow). tableOf waitingRow (length ws) q) (sym (ap (map waitingRowOf) (putWaiting-rows w (waitingOf (r .waiting) ws))
+      ∙ map-put (λ q. q .born) waitingRowOf (suc (e .born)) (suc (e .born)) (w ∷ []) (waitingOf (r .waiting) ws)
       ∙ rw (waiters-same r ws v)))
 
   -- a remove leaves the other waiting rows

@@ -17,12 +17,13 @@ use Rattle.base.specs.Logic.{pick, all, any, elem, keep, fold, repeated, ascend
 use Rattle.base.specs.Laws.{and-left, and-right, and-both, ascending-head, ascending-tail}
 use Rattle.base.specs.ListLaws.{or-false, Some, here, there, value-order, any-order, all-left, all-weaker, keep-append, keep-empty, keep-order, length-order, repeated-order, eqb-sym}
 use Rattle.base.specs.SumLaws.{all-map, keep-map}
-use Rattle.rows.specs.Keys.{putRows}
+use Rattle.rows.specs.KeyLaws.{putRows}
 use Rattle.rows.specs.RowLaws.{keep-absent}
-use Rattle.cell_nursery.specs.Entries.{Entry, Waiting, State, empty, names, tied, putEntry, putWaiting, insert, remove}
+use Rattle.cell_nursery.specs.Entries.{Entry, Waiting, State, empty, names, tied, putEntry, insert, remove}
 use Rattle.cell_nursery.specs.Items.{Delta}
 use Rattle.cell_nursery.specs.Delta.{present, stateAfter}
 use Rattle.cell_nursery.specs.Drain.{due, drained}
+use Rattle.cell_nursery.specs.PutLaws.{putWaiting-rows}
 
 -- ---- a list in two parts
 module _ {A : Type 0} where
@@ -111,10 +112,11 @@ unfolding empty
 waits-empty = order-nil
 
 pub waits-insert : (gone : List Waiting) (e : Entry) (s : State) → elem (e .hash) (map (λ x. x .hash) (s .entries)) ≡ false → Waits gone s → Waits gone (insert e s)
-unfolding insert putEntry putWaiting
+unfolding insert putEntry putRows
 waits-insert gone e s a w =
-    order-trans (Permᴰ·append-right gone (put-between (λ x. x .born) (waiterFor e) (s .waiting) (suc (e .born))))
-    (order-trans (order-cons refl w) (Permᴰ·symm (Permᴰ·map waiterFor (put-absent (λ x. x .hash) e (s .entries) (e .hash) a))))
+    rw (putWaiting-rows (waiterFor e) (s .waiting))
+    (order-trans (Permᴰ·append-right gone (put-between (λ x. x .born) (waiterFor e) (s .waiting) (suc (e .born))))
+    (order-trans (order-cons refl w) (Permᴰ·symm (Permᴰ·map waiterFor (put-absent (λ x. x .hash) e (s .entries) (e .hash) a)))))
 
 pub waits-remove : (gone : List Waiting) (h : ℕ) (s : State) → Waits gone s → Waits (keep (λ w. not (eqb (w .hash) h)) gone) (remove h s)
 unfolding remove

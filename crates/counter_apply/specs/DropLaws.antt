@@ -14,7 +14,8 @@ use Rattle.counters.specs.Counts.{Entry}
 use Rattle.counters.specs.Layout.{countRow}
 use Rattle.counters.specs.Held.{InOrder}
 use Rattle.counters.specs.Batch.{countsAfter}
-use Rattle.counters.specs.Steps.{transitions, some}
+use Rattle.counters.specs.Steps.{transitions}
+use Rattle.counter_steps.specs.Steps.{passOf}
 use Rattle.counters.specs.RowLaws.{indices}
 use Rattle.counters.specs.ApplyLaws.{in-order-ascends}
 use Rattle.counter_merge.specs.Passes.{stands, standing, anyHit, marked}
@@ -37,17 +38,17 @@ module _ (n : ℕ) (t ws : List ℕ) (ok : InOrder n t) (stand : all stands (row
     marked-laid = marked-same .ordered .laid
 
     pub dropped : (r : ℕ) (t″ : List ℕ) → r ≡ length (standing (rowsOf countRow n t′)) → t″ ≡ tableOf countRow (length t′) (standing (rowsOf countRow n t′))
-        → (r ≡ length (countsAfter (some false ts) (rowsOf countRow n t))) × (t″ ≡ tableOf countRow (length t) (countsAfter (some false ts) (rowsOf countRow n t)))
+        → (r ≡ length (countsAfter (passOf false ts) (rowsOf countRow n t))) × (t″ ≡ tableOf countRow (length t) (countsAfter (passOf false ts) (rowsOf countRow n t)))
     dropped r t″ a b =
-        let e : standing (rowsOf countRow n t′) ≡ countsAfter (some false ts) (rowsOf countRow n t) =
-        ap standing (marked-same .spells) ∙ standing-marked ts (rowsOf countRow n t) (in-order-ascends n t ok) ∙ ap (countsAfter (some false ts)) all-stand in
+        let e : standing (rowsOf countRow n t′) ≡ countsAfter (passOf false ts) (rowsOf countRow n t) =
+        ap standing (marked-same .spells) ∙ standing-marked ts (rowsOf countRow n t) (in-order-ascends n t ok) ∙ ap (countsAfter (passOf false ts)) all-stand in
         (a ∙ ap length e, b ∙ ap₂ (λ (k : ℕ) (l : List Entry). tableOf countRow k l) (marked-same .size) e)
 
     -- none was
     pub none-dropped : anyHit (keys firstWord 2 n t) ts ≡ false
-        → (n ≡ length (countsAfter (some false ts) (rowsOf countRow n t))) × (t′ ≡ tableOf countRow (length t) (countsAfter (some false ts) (rowsOf countRow n t)))
+        → (n ≡ length (countsAfter (passOf false ts) (rowsOf countRow n t))) × (t′ ≡ tableOf countRow (length t) (countsAfter (passOf false ts) (rowsOf countRow n t)))
     none-dropped h =
         let q : marked ts (rowsOf countRow n t) ≡ rowsOf countRow n t = marked-none ts (rowsOf countRow n t) (ap (λ (ks : List ℕ). anyHit ks ts) (indices n t) ∙ h) in
-        let e : countsAfter (some false ts) (rowsOf countRow n t) ≡ rowsOf countRow n t =
-        ap (countsAfter (some false ts)) (sym all-stand) ∙ sym (standing-marked ts (rowsOf countRow n t) (in-order-ascends n t ok)) ∙ ap standing q ∙ all-stand in
+        let e : countsAfter (passOf false ts) (rowsOf countRow n t) ≡ rowsOf countRow n t =
+        ap (countsAfter (passOf false ts)) (sym all-stand) ∙ sym (standing-marked ts (rowsOf countRow n t) (in-order-ascends n t ok)) ∙ ap standing q ∙ all-stand in
         rw e (sym (length-rowsOf countRow n t), words ∙ ap (tableOf countRow (length t)) q)

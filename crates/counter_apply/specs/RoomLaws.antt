@@ -19,9 +19,11 @@ use Rattle.counters.specs.Counts.{Entry}
 use Rattle.counters.specs.declared.Counters.{Counters}
 use Rattle.counters.specs.Layout.{countRow, sound, ordered}
 use Rattle.counters.specs.LayoutLaws.{held}
+use Rattle.counters.specs.CodingLaws.{count-lawful}
 use Rattle.counters.specs.Held.{InOrder, Judged}
 use Rattle.counters.specs.Batch.{countsAfter}
-use Rattle.counters.specs.Steps.{transitions, some}
+use Rattle.counters.specs.Steps.{transitions}
+use Rattle.counter_steps.specs.Steps.{passOf}
 use Rattle.counters.specs.RowLaws.{indices}
 use Rattle.counters.specs.ApplyLaws.{in-order-table, in-order-ascends}
 use Rattle.counter_merge.specs.Passes.{stands, newRows, fronts, backs, joined, comes}
@@ -105,13 +107,13 @@ module _ (n at : ℕ) (t : List ℕ) (ok : InOrder n t) (low : n * 2 ≤ at) (hi
     size-after : length t′ ≡ length t
     size-after =
         ap length words ∙ length-append (tableOf countRow at (fronts ts es)) (tableOf countRow (length t - at) ns)
-        ∙ omega (arith, front-size, length-table countRow (length t - at) ns back-fits)
+        ∙ omega (arith, front-size, length-table count-lawful (length t - at) ns back-fits)
 
     fronts-are : rowsOf countRow n (take at t′) ≡ fronts ts es
     fronts-are = rw front-after (front-table .spells)
 
     backs-are : rowsOf countRow s (drop at t′) ≡ ns
-    backs-are = rw (back-after, number) (rowsOf-table countRow (length t - at) ns)
+    backs-are = rw (back-after, number) (rowsOf-table count-lawful (length t - at) ns)
 
     none-comes : all (comes ks) [] ≡ true
     unfolding all
@@ -135,15 +137,15 @@ module _ (n at : ℕ) (t : List ℕ) (ok : InOrder n t) (low : n * 2 ≤ at) (hi
         }
 
     -- ---- and are joined
-    all-joined : joined (rowsOf countRow s (drop at t′)) (rowsOf countRow n (take at t′)) ≡ countsAfter (some true ts) (rowsOf countRow n t)
+    all-joined : joined (rowsOf countRow s (drop at t′)) (rowsOf countRow n (take at t′)) ≡ countsAfter (passOf true ts) (rowsOf countRow n t)
     all-joined =
         rw (backs-are, fronts-are)
         (ap (λ (k : List ℕ). joined (backs k ts []) (fronts ts es)) (sym (indices n (take at t)))
-        ∙ joined-after ts es (in-order-ascends n (take at t) front-order) ∙ ap (countsAfter (some true ts)) (rows-front n at t low high))
+        ∙ joined-after ts es (in-order-ascends n (take at t) front-order) ∙ ap (countsAfter (passOf true ts)) (rows-front n at t low high))
 
     pub room-end : (r : ℕ) (t″ : List ℕ) → r ≡ length (joined (rowsOf countRow s (drop at t′)) (rowsOf countRow n (take at t′)))
         → t″ ≡ tableOf countRow (length t′) (joined (rowsOf countRow s (drop at t′)) (rowsOf countRow n (take at t′)))
-        → (r ≡ length (countsAfter (some true ts) (rowsOf countRow n t))) × (t″ ≡ tableOf countRow (length t) (countsAfter (some true ts) (rowsOf countRow n t)))
+        → (r ≡ length (countsAfter (passOf true ts) (rowsOf countRow n t))) × (t″ ≡ tableOf countRow (length t) (countsAfter (passOf true ts) (rowsOf countRow n t)))
     room-end r t″ a b = (a ∙ ap length all-joined, b ∙ ap₂ (λ (k : ℕ) (l : List Entry). tableOf countRow k l) size-after all-joined)
 
 -- ---- a batch that passed every test: each row stands
@@ -191,6 +193,6 @@ module _ (n : ℕ) (t ws : List ℕ) (ok : InOrder n t) (k : ℕ) (counted : k �
 
     pub batch-end : (r : ℕ) (t″ : List ℕ) → r ≡ length (joined (rowsOf countRow s (drop aside t′)) (rowsOf countRow n (take aside t′)))
         → t″ ≡ tableOf countRow (length t′) (joined (rowsOf countRow s (drop aside t′)) (rowsOf countRow n (take aside t′)))
-        → (r ≡ length (countsAfter (some true (transitions ws)) (rowsOf countRow n t)))
-        × (t″ ≡ tableOf countRow (length t) (countsAfter (some true (transitions ws)) (rowsOf countRow n t)))
+        → (r ≡ length (countsAfter (passOf true (transitions ws)) (rowsOf countRow n t)))
+        × (t″ ≡ tableOf countRow (length t) (countsAfter (passOf true (transitions ws)) (rowsOf countRow n t)))
     batch-end = room-end n aside t ok low high (transitions ws) room space s t′ number words

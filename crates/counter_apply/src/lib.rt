@@ -1,6 +1,6 @@
 // A batch that passed every test, applied: first the rows that go, then those that come, each in a few passes over the table.
+use counter_steps::Kind;
 use counters::Counters;
-use counters::Kind;
 use counters::NextIdx;
 ghost use mathlib.Core.Path.{_≡_};
 ghost use mathlib.Core.Bool.{true, false};
@@ -13,14 +13,15 @@ ghost use Rattle.counters.specs.Layout as layout;
 ghost use Rattle.counters.specs.Layout.{countRow, recordOf, stateOf};
 ghost use Rattle.counters.specs.Batch.{kept, countsAfter, stateAfter};
 ghost use Rattle.counters.specs.Held.{InOrder, Judged};
-ghost use Rattle.counters.specs.Steps.{transitions, some};
+ghost use Rattle.counters.specs.Steps.{transitions};
+ghost use Rattle.counter_steps.specs.Steps.{passOf};
 ghost use Rattle.counter_merge.specs.Passes.{stands};
 
 // Applies the kept transitions that leave no row. Returns how many rows there are then.
 fn drop_rows(t: &mut [u64], n: usize, b: &[u64]) -> usize
     requires { ⌜ InOrder n (now t) ⌝ }
     requires { ⌜ all stands (rowsOf countRow n (now t)) ≡ true ⌝ }
-    ensures { λ r. ⌜ (r ≡ length (countsAfter (some false (transitions (now (b .entry)))) (rowsOf countRow n (now (t .entry))))) × (now (t .exit) ≡ rows-table.tableOf countRow (length (now (t .entry))) (countsAfter (some false (transitions (now (b .entry)))) (rowsOf countRow n (now (t .entry))))) ⌝ }
+    ensures { λ r. ⌜ (r ≡ length (countsAfter (passOf false (transitions (now (b .entry)))) (rowsOf countRow n (now (t .entry))))) × (now (t .exit) ≡ rows-table.tableOf countRow (length (now (t .entry))) (countsAfter (passOf false (transitions (now (b .entry)))) (rowsOf countRow n (now (t .entry))))) ⌝ }
 {
     if counter_merge::mark(t, n, b) {
         return counter_merge::compact(t, n);
@@ -32,8 +33,8 @@ fn drop_rows(t: &mut [u64], n: usize, b: &[u64]) -> usize
 // there are then.
 fn put_rows(t: &mut [u64], n: usize, b: &[u64]) -> usize
     requires { ⌜ InOrder n (now t) ⌝ }
-    requires { ⌜ length (countsAfter (some true (transitions (now b))) (rowsOf countRow n (now t))) * 2 ≤ length (now t) ⌝ }
-    ensures { λ r. ⌜ (r ≡ length (countsAfter (some true (transitions (now (b .entry)))) (rowsOf countRow n (now (t .entry))))) × (now (t .exit) ≡ rows-table.tableOf countRow (length (now (t .entry))) (countsAfter (some true (transitions (now (b .entry)))) (rowsOf countRow n (now (t .entry))))) ⌝ }
+    requires { ⌜ length (countsAfter (passOf true (transitions (now b))) (rowsOf countRow n (now t))) * 2 ≤ length (now t) ⌝ }
+    ensures { λ r. ⌜ (r ≡ length (countsAfter (passOf true (transitions (now (b .entry)))) (rowsOf countRow n (now (t .entry))))) × (now (t .exit) ≡ rows-table.tableOf countRow (length (now (t .entry))) (countsAfter (passOf true (transitions (now (b .entry)))) (rowsOf countRow n (now (t .entry))))) ⌝ }
 {
     let k = counter_merge::new_rows(t, n, b);
     let free = t.len() / 2 - n;

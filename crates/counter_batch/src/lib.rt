@@ -1,9 +1,9 @@
 // The batch call: every test over the whole batch before the first write, so that a batch is taken whole or refused whole.
 use base::Answer;
 use base::Refusal;
+use counter_steps::Kind;
 use counters::Applied;
 use counters::Counters;
-use counters::Kind;
 ghost use mathlib.Core.Path.{_≡_};
 ghost use mathlib.Core.Bool.{true, false};
 ghost use Prim.Native.Nat.{_+_, _-_, _/_, _%_, _^_, _≤_, _<_};

@@ -15,6 +15,7 @@ use Rattle.rows.specs.Keys.{keys, firstWord}
 use Rattle.counters.specs.declared.CounterTransition.{CounterTransition}
 use Rattle.counters.specs.Counts.{Entry, setCount}
 use Rattle.counters.specs.Layout.{countRow}
+use Rattle.counters.specs.CodingLaws.{count-lawful}
 use Rattle.counters.specs.Held.{InOrder}
 use Rattle.counters.specs.ApplyLaws.{in-order-table, in-order-ascends}
 use Rattle.counter_merge.specs.Passes.{replaced, lands, isNew, frontOne, fronts, newRows, backOne, backs}
@@ -75,7 +76,7 @@ module _ (n at s : ℕ) (t : List ℕ) (ok : Halves n at s t) where
         rw (l, ← e) (
           sym (length-rowsOf countRow s (drop at t)),
           ap₂ (λ (a b : List ℕ). a ++ b) (w ∙ ap (λ (k : ℕ). tableOf countRow k (replaced i m es)) front-length)
-              (sym (table-rowsOf countRow s (drop at t) (ok .back .laid)) ∙ ap (λ (k : ℕ). tableOf countRow k ns) back-size),
+              (sym (table-rowsOf count-lawful s (drop at t) (ok .back .laid)) ∙ ap (λ (k : ℕ). tableOf countRow k ns) back-size),
         )
 
     pub put-aside : lands x ≡ true → false ≡ elem i ks → (y : List ℕ) → y ≡ tableOf countRow (length (take at t)) (replaced i m es)
@@ -104,8 +105,8 @@ module _ (n at s : ℕ) (t : List ℕ) (ok : Halves n at s t) where
         rw l (
           sym (length-rowsOf countRow s (drop at t)),
           sym (take-append-drop at t)
-              ∙ ap₂ (λ (a b : List ℕ). a ++ b) (sym (table-rowsOf countRow n (take at t) (ok .front .laid)) ∙ ap (λ (k : ℕ). tableOf countRow k es) front-length)
-              (sym (table-rowsOf countRow s (drop at t) (ok .back .laid)) ∙ ap (λ (k : ℕ). tableOf countRow k ns) back-size),
+              ∙ ap₂ (λ (a b : List ℕ). a ++ b) (sym (table-rowsOf count-lawful n (take at t) (ok .front .laid)) ∙ ap (λ (k : ℕ). tableOf countRow k es) front-length)
+              (sym (table-rowsOf count-lawful s (drop at t) (ok .back .laid)) ∙ ap (λ (k : ℕ). tableOf countRow k ns) back-size),
         )
 
     -- what one leaves for the next
@@ -132,7 +133,7 @@ module _ (n at s : ℕ) (t : List ℕ) (ok : Halves n at s t) where
       pub put-size : length t′ ≡ length t
       put-size =
           ap length words ∙ length-append (tableOf countRow at (frontOne x es)) (tableOf countRow (length t - at) (backOne ks x ns))
-          ∙ omega (arith, front-size, length-table countRow (length t - at) (backOne ks x ns) back-fits, ok .within)
+          ∙ omega (arith, front-size, length-table count-lawful (length t - at) (backOne ks x ns) back-fits, ok .within)
 
       pub put-halves : Halves n at r t′
       put-halves =
@@ -149,7 +150,7 @@ module _ (n at s : ℕ) (t : List ℕ) (ok : Halves n at s t) where
       put-fronts = rw front-after (front-table .spells)
 
       pub put-backs : rowsOf countRow r (drop at t′) ≡ backOne ks x ns
-      put-backs = rw (back-after, number) (rowsOf-table countRow (length t - at) (backOne ks x ns))
+      put-backs = rw (back-after, number) (rowsOf-table count-lawful (length t - at) (backOne ks x ns))
 
 -- ---- one transition after the other
 pub front-turn : (x : CounterTransition) (xs : List CounterTransition) (es : List Entry) → fronts xs (frontOne x es) ≡ fronts (x ∷ xs) es
@@ -175,8 +176,8 @@ put-done n at s t t₀ ok ts xs ks e size a b =
       sym (length-rowsOf countRow s (drop at t)) ∙ ap length b′,
       sym (take-append-drop at t)
           ∙ ap₂ (λ (u v : List ℕ). u ++ v)
-          (sym (table-rowsOf countRow n (take at t) (ok .front .laid)) ∙ ap₂ (λ (k : ℕ) (l : List Entry). tableOf countRow k l) (length-take-le at t (ok .within)) a′)
-          (sym (table-rowsOf countRow s (drop at t) (ok .back .laid)) ∙ ap₂ (λ (k : ℕ) (l : List Entry). tableOf countRow k l) (length-drop at t ∙ ap (λ (k : ℕ). k - at) size) b′),
+          (sym (table-rowsOf count-lawful n (take at t) (ok .front .laid)) ∙ ap₂ (λ (k : ℕ) (l : List Entry). tableOf countRow k l) (length-take-le at t (ok .within)) a′)
+          (sym (table-rowsOf count-lawful s (drop at t) (ok .back .laid)) ∙ ap₂ (λ (k : ℕ) (l : List Entry). tableOf countRow k l) (length-drop at t ∙ ap (λ (k : ℕ). k - at) size) b′),
     )
 
 -- ---- how many are new

@@ -10,9 +10,8 @@ use borrow.Author.Tests.{le-leb, lt-leb, le-ltb, lt-ltb, eq-eqb, ne-eqb, eqb-tru
 use Rattle.base.specs.Logic.{pick, all, keep, fold, ascendingFrom}
 use Rattle.base.specs.Laws.{and-both, ascending-head, ascending-tail, ascending-sorted}
 use Rattle.base.specs.ListLaws.{all-head, all-tail, all-kept, all-weaker, keep-append, keep-whole, keep-empty, fold-append}
-use Rattle.rows.specs.Keys.{putRows}
-use Rattle.rows.specs.OrderLaws.{putRows-all}
-use Rattle.rows.specs.RowLaws.{keep-others}
+use Rattle.rows.specs.RowLaws.{all-put, keep-others}
+use Rattle.rows.specs.KeyLaws.{putRows}
 use Rattle.counters.specs.Counts.{Entry, rowOf, setCount}
 use Rattle.counters.specs.CountLaws.{setCount-again, setCount-swap}
 use Rattle.counter_merge.specs.Passes.{joined}
@@ -146,12 +145,12 @@ row-under b i m h = go (leb 2 m)
     go false = refl
 
 join-under : (b : ℕ) (ns es : List Entry) → under b ns → under b es → under b (joined ns es)
-unfolding joined fold setCount
+unfolding joined fold setCount putRows
 join-under b [] es u v = v
 join-under b (x ∷ ns) es u v =
     let l = ltb-true (x .idx) b (all-head (λ y. ltb (y .idx) b) x ns u) in
     join-under b ns (setCount (x .idx) (x .count) es) (all-tail (λ y. ltb (y .idx) b) x ns u)
-    (putRows-all index (λ y. ltb (y .idx) b) (x .idx) (suc (x .idx)) (rowOf (x .idx) (x .count)) es (row-under b (x .idx) (x .count) l) v)
+    (all-put index (x .idx) (suc (x .idx)) (rowOf (x .idx) (x .count)) es (λ y. ltb (y .idx) b) v (row-under b (x .idx) (x .count) l))
 
 pub join-back : (x : Entry) (ns es : List Entry) → 2 ≤ x .count → under (x .idx) ns → under (x .idx) es → joined (ns ++ (x ∷ [])) es ≡ joined ns es ++ (x ∷ [])
 join-back x ns es h u v = join-append ns (x ∷ []) es ∙ join-cons x [] (joined ns es) ∙ join-none (setCount (x .idx) (x .count) (joined ns es)) ∙ set-last x (joined ns es) h (join-under (x .idx) ns es u v)

@@ -11,13 +11,13 @@ use borrow.Author.Tests.{le-leb, lt-leb, le-ltb, lt-ltb, eq-eqb, ne-eqb, eqb-fal
 use Rattle.base.specs.Logic.{pick, all, any, elem, keep, fold, ascendingFrom}
 use Rattle.base.specs.Laws.{ascending-head, ascending-tail, ascending-sorted}
 use Rattle.base.specs.ListLaws.{or-false, ascending-keep, keep-whole}
-use Rattle.rows.specs.Keys.{putRows}
 use Rattle.rows.specs.RowLaws.{keep-others}
+use Rattle.rows.specs.KeyLaws.{putRows}
 use Rattle.counters.specs.declared.CounterTransition.{CounterTransition}
 use Rattle.counters.specs.Counts.{Entry, rowOf, setCount}
 use Rattle.counters.specs.Batch.{changes, countsAfter}
-use Rattle.counters.specs.Steps.{leavesRow, some, applyOne}
-use Rattle.counters.specs.ApplyLaws.{turn, some-none}
+use Rattle.counter_steps.specs.Steps.{leavesRow, passOf, applyOne}
+use Rattle.counter_steps.specs.PassLaws.{turn, pass-none}
 use Rattle.counter_merge.specs.Passes.{stands, standing, recount, replaced, drops, markOne, marked, hits, anyHit}
 
 abbrev index : Entry → ℕ
@@ -94,14 +94,14 @@ module _ (i m : ℕ) where
       go false false q p r = rw p r
 
   pub standing-set : m < 2 → (es : List Entry) → Ascends es → standing (replaced i m es) ≡ setCount i m (standing es)
-  unfolding setCount rowOf standing
+  unfolding setCount rowOf standing putRows
   standing-set h es a =
       standing-replaced h es
       ∙ rw (lt-leb 2 m h)
       (keep-others index i 0 (keep stands es) (ascending-sorted 0 (map index (keep stands es)) (ascending-keep index stands 0 es a)))
 
   pub set-replaced-rows : 2 ≤ m → (es : List Entry) → Ascends es → elem i (map index es) ≡ true → replaced i m es ≡ setCount i m es
-  unfolding setCount rowOf
+  unfolding setCount rowOf putRows
   set-replaced-rows h es a e = replaced-put 0 es a e ∙ rw (le-leb 2 m h)
 
 -- ---- one transition, and all of them
@@ -139,12 +139,12 @@ standing-ascends : (es : List Entry) → Ascends es → Ascends (standing es)
 unfolding standing
 standing-ascends es a = ascending-keep index stands 0 es a
 
-pub standing-marked : (xs : List CounterTransition) (es : List Entry) → Ascends es → standing (marked xs es) ≡ countsAfter (some false xs) (standing es)
+pub standing-marked : (xs : List CounterTransition) (es : List Entry) → Ascends es → standing (marked xs es) ≡ countsAfter (passOf false xs) (standing es)
 unfolding marked fold
-standing-marked [] es a = sym (some-none false (standing es))
+standing-marked [] es a = sym (pass-none false (standing es))
 standing-marked (x ∷ xs) es a =
     standing-marked xs (markOne x es) (ap (ascendingFrom 0) (mark-indices x es) ∙ a)
-    ∙ ap (countsAfter (some false xs)) (standing-one x es a)
+    ∙ ap (countsAfter (passOf false xs)) (standing-one x es a)
     ∙ sym (turn false x xs (standing es) (standing-ascends es a))
 
 -- ---- where no transition names a row, nothing is marked

@@ -21,7 +21,8 @@ use Rattle.rows.specs.KeyLaws.{length-keys, word-at}
 use Rattle.rows.specs.RowLaws.{elem-hit}
 use Rattle.counters.specs.Counts.{Entry}
 use Rattle.counters.specs.Layout.{countRow}
-use Rattle.counters.specs.RowLaws.{rowAt}
+use Rattle.counters.specs.CodingLaws.{count-lawful}
+use Rattle.counters.specs.Steps.{rowAt}
 use Rattle.counters.specs.ApplyLaws.{in-order-ascends}
 use Rattle.counter_merge.specs.Passes.{joined, comes, frontLast, lastAt}
 use Rattle.counter_merge.specs.Halves.{Apart}
@@ -388,5 +389,5 @@ module _ (n at s : ℕ) (t₀ : List ℕ) (ok : Apart n at s t₀) where
         (ap (λ (u : List ℕ). take k u) cleared-is ∙ take-append-le k (take at t) (zeros (s * 2) ++ drop (at + s * 2) t) (omega arith) ∙ take-take k at t room)
         ∙ spells in (
           sym (length-rowsOf countRow (n + s) t) ∙ ap length spells,
-          sym (table-rowsOf countRow (n + s) cleared laid) ∙ ap₂ (λ (p : ℕ) (l : List Entry). tableOf countRow p l) cleared-length rows,
+          sym (table-rowsOf count-lawful (n + s) cleared laid) ∙ ap₂ (λ (p : ℕ) (l : List Entry). tableOf countRow p l) cleared-length rows,
         )

@@ -9,7 +9,7 @@ use Rattle.base.specs.Logic.{pick, any, elem, keep, fold}
 use Rattle.counters.specs.declared.CounterTransition.{CounterTransition}
 use Rattle.counters.specs.Counts.{Entry, setCount}
 use Rattle.counters.specs.Batch.{changes}
-use Rattle.counters.specs.Steps.{leavesRow}
+use Rattle.counter_steps.specs.Steps.{leavesRow}
 
 -- the rows that stand: those whose count is at least 2
 abbrev pub stands : Entry → Bool

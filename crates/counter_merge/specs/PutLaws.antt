@@ -11,15 +11,15 @@ use borrow.Author.Tests.{le-leb, leb-true, eqb-true}
 use Rattle.base.specs.Logic.{pick, all, elem, fold, ascendingFrom}
 use Rattle.base.specs.Laws.{and-right}
 use Rattle.base.specs.ListLaws.{all-weaker, length-keep}
-use Rattle.rows.specs.Keys.{putRows}
-use Rattle.rows.specs.RowLaws.{length-put}
-use Rattle.rows.specs.OrderLaws.{putRows-all}
+use Rattle.rows.specs.RowLaws.{all-put, length-put}
+use Rattle.rows.specs.KeyLaws.{putRows}
 use Rattle.counters.specs.declared.CounterTransition.{CounterTransition}
 use Rattle.counters.specs.Counts.{Entry, rowOf, setCount}
 use Rattle.counters.specs.CountLaws.{length-rowOf}
 use Rattle.counters.specs.Batch.{changes, countsAfter}
-use Rattle.counters.specs.Steps.{leavesRow, some, applyOne}
-use Rattle.counters.specs.ApplyLaws.{turn, some-none, set-ascends}
+use Rattle.counter_steps.specs.Steps.{leavesRow, passOf, applyOne}
+use Rattle.counters.specs.ApplyLaws.{set-ascends}
+use Rattle.counter_steps.specs.PassLaws.{turn, pass-none}
 use Rattle.counter_merge.specs.Passes.{replaced, lands, frontOne, fronts, isNew, newRows, backOne, backs, joined, comes}
 use Rattle.counter_merge.specs.MarkLaws.{replaced-indices, replaced-none, set-replaced-rows}
 use Rattle.counter_merge.specs.JoinLaws.{join-past, join-into, join-none}
@@ -64,7 +64,7 @@ module _ (x : CounterTransition) where
   module _ (ks : List ℕ) where
     -- one row more at most
     pub back-length : (ns : List Entry) → length (backOne ks x ns) ≤ length ns + pick (isNew ks x) 1 0
-    unfolding backOne setCount
+    unfolding backOne setCount putRows
     back-length ns = go (lands x && not (elem i ks))
       where
         one : (b : Bool) → pick b 1 0 ≤ 1
@@ -84,13 +84,13 @@ module _ (x : CounterTransition) where
         go false = a
 
     pub back-comes : (ns : List Entry) → all (comes ks) ns ≡ true → all (comes ks) (backOne ks x ns) ≡ true
-    unfolding backOne setCount
+    unfolding backOne setCount putRows
     back-comes ns c = go (lands x) (elem i ks) refl refl
       where
         go : (b d : Bool) → lands x ≡ b → elem i ks ≡ d → all (comes ks) (pick (b && not d) (putRows index i (suc i) (rowOf i m) ns) ns) ≡ true
         go true true l e = c
         go true false l e =
-            putRows-all index (comes ks) i (suc i) (rowOf i m) ns (row-comes ks i m (leb-true 2 m (and-right (changes x) (leb 2 m) l)) e) c
+            all-put index i (suc i) (rowOf i m) ns (comes ks) c (row-comes ks i m (leb-true 2 m (and-right (changes x) (leb 2 m) l)) e)
         go false d l e = c
 
     -- set among all of them, or laid aside, or replaced: the same
@@ -139,18 +139,18 @@ one-ascends-too x es a = go (changes x && leavesRow true x)
     go false = a
 
 joined-all : (ks : List ℕ) (xs : List CounterTransition) (ns es : List Entry) → Ascends ns → Ascends es → map index es ≡ ks → all (comes ks) ns ≡ true
-    → Ascends (joined ns es) → joined (backs ks xs ns) (fronts xs es) ≡ countsAfter (some true xs) (joined ns es)
+    → Ascends (joined ns es) → joined (backs ks xs ns) (fronts xs es) ≡ countsAfter (passOf true xs) (joined ns es)
 unfolding backs fronts fold
-joined-all ks [] ns es a b q c j = sym (some-none true (joined ns es))
+joined-all ks [] ns es a b q c j = sym (pass-none true (joined ns es))
 joined-all ks (x ∷ xs) ns es a b q c j =
     let one = join-one x ks ns es a b q c in
     joined-all ks xs (backOne ks x ns) (frontOne x es) (back-ascends x ks ns a) (ap (ascendingFrom 0) (front-indices x es) ∙ b) (front-indices x es ∙ q) (back-comes x ks ns c)
     (ap (λ (l : List Entry). ascendingFrom 0 (map index l)) one ∙ one-ascends-too x (joined ns es) j)
-    ∙ ap (countsAfter (some true xs)) one ∙ sym (turn true x xs (joined ns es) j)
+    ∙ ap (countsAfter (passOf true xs)) one ∙ sym (turn true x xs (joined ns es) j)
 
 pub joined-after : (xs : List CounterTransition) (es : List Entry) → Ascends es
-    → joined (backs (map index es) xs []) (fronts xs es) ≡ countsAfter (some true xs) es
+    → joined (backs (map index es) xs []) (fronts xs es) ≡ countsAfter (passOf true xs) es
 unfolding all ascendingFrom
 joined-after xs es a =
     joined-all (map index es) xs [] es refl a refl refl (ap (λ (l : List Entry). ascendingFrom 0 (map index l)) (join-none es) ∙ a)
-    ∙ ap (countsAfter (some true xs)) (join-none es)
+    ∙ ap (countsAfter (passOf true xs)) (join-none es)

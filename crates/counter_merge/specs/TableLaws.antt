@@ -19,6 +19,7 @@ use Rattle.rows.specs.PutLaws.{put-replaced}
 use Rattle.counters.specs.declared.CounterTransition.{CounterTransition}
 use Rattle.counters.specs.Counts.{Entry}
 use Rattle.counters.specs.Layout.{countRow}
+use Rattle.counters.specs.CodingLaws.{count-lawful}
 use Rattle.counters.specs.Held.{InOrder}
 use Rattle.counters.specs.RowLaws.{indices, in-order-sorted}
 use Rattle.counters.specs.SetLaws.{behind-row}
@@ -44,12 +45,12 @@ module _ (n : ℕ) (t : List ℕ) (ok : InOrder n t) (i m k : ℕ) (here : k ≡
       ∙ ap (λ (x : ℕ). take (k * 2) t ++ (x ∷ m ∷ drop (k * 2 + 2) t)) e in (
         sym there,
         words
-            ∙ put-replaced countRow (λ x. x .idx) firstWord (λ u. refl) n t (ok .laid) (in-order-sorted n t ok) i (suc i) k here (behind-row n t ok i k here h e) row
+            ∙ put-replaced count-lawful (λ x. x .idx) firstWord (λ u. refl) n t (ok .laid) (in-order-sorted n t ok) i (suc i) k here (behind-row n t ok i k here h e) row
             ∙ ap (tableOf countRow (length t)) (sym (replaced-put i m 0 es (in-order-ascends n t ok) (ap (elem i) (indices n t) ∙ there))),
       )
 
   none : elem i (keys firstWord 2 n t) ≡ false → (false ≡ elem i (keys firstWord 2 n t)) × (t ≡ tableOf countRow (length t) (replaced i m es))
-  none e = (sym e, rw (replaced-none i m es (ap (elem i) (indices n t) ∙ e)) (sym (table-rowsOf countRow n t (ok .laid))))
+  none e = (sym e, rw (replaced-none i m es (ap (elem i) (indices n t) ∙ e)) (sym (table-rowsOf count-lawful n t (ok .laid))))
 
   pub replaced-miss : k < n → (getD t (k * 2) 0 ≡ i → ⊥) → (false ≡ elem i (keys firstWord 2 n t)) × (t ≡ tableOf countRow (length t) (replaced i m es))
   replaced-miss h e = none (elem-miss i 0 (keys firstWord 2 n t) (in-order-sorted n t ok) (λ g q. e (sym (word-at 2 n t k h) ∙ ap (λ (j : ℕ). getD (keys firstWord 2 n t) j 0) here ∙ q)))
@@ -78,9 +79,9 @@ same-indices n t ok es e t′ w =
     let number : n ≡ length es =
     sym (length-rowsOf countRow n t) ∙ sym (length-map (rowsOf countRow n t) (λ (x : Entry). x .idx)) ∙ ap length (sym e) ∙ length-map es (λ (x : Entry). x .idx) in
     let fits : length es * 2 ≤ length t = omega (arith, ok .laid .fits) in
-    let rows : rowsOf countRow n t′ ≡ es = rw (w, number) (rowsOf-table countRow (length t) es) in
+    let rows : rowsOf countRow n t′ ≡ es = rw (w, number) (rowsOf-table count-lawful (length t) es) in
     record {
-      size = ap length w ∙ length-table countRow (length t) es fits;
+      size = ap length w ∙ length-table count-lawful (length t) es fits;
       ordered = rw (w, number) (in-order-table (length t) es fits (ap (ascendingFrom 0) e ∙ in-order-ascends n t ok));
       indexed = sym (indices n t′) ∙ ap (map (λ (x : Entry). x .idx)) rows ∙ e ∙ indices n t;
       spells = rows;
@@ -96,7 +97,7 @@ module _ (n : ℕ) (t : List ℕ) (ok : InOrder n t) (x : CounterTransition) whe
 
   pub mark-other : drops x ≡ false → (false ≡ hits (keys firstWord 2 n t) x) × (t ≡ tableOf countRow (length t) (markOne x (rowsOf countRow n t)))
   unfolding markOne
-  mark-other d = rw d (refl, sym (table-rowsOf countRow n t (ok .laid)))
+  mark-other d = rw d (refl, sym (table-rowsOf count-lawful n t (ok .laid)))
 
   pub mark-same : (t′ : List ℕ) → t′ ≡ tableOf countRow (length t) (markOne x (rowsOf countRow n t)) → Same n t (markOne x (rowsOf countRow n t)) t′
   mark-same t′ w = same-indices n t ok (markOne x (rowsOf countRow n t)) (mark-indices x (rowsOf countRow n t)) t′ w
@@ -122,5 +123,5 @@ pub mark-done : (n : ℕ) (t t₀ : List ℕ) → InOrder n t → (ts xs : List 
 unfolding marked fold anyHit any
 mark-done n t t₀ ok ts xs hit ks e size rows hits-are = (
   sym (none-left hit) ∙ (rw e at hits-are),
-  sym (table-rowsOf countRow n t (ok .laid)) ∙ ap₂ (λ (k : ℕ) (l : List Entry). tableOf countRow k l) size (rw e at rows),
+  sym (table-rowsOf count-lawful n t (ok .laid)) ∙ ap₂ (λ (k : ℕ) (l : List Entry). tableOf countRow k l) size (rw e at rows),
 )

@@ -18,7 +18,9 @@ use Rattle.rows.specs.Table.{rowsOf, tableOf, Laid}
 use Rattle.rows.specs.TableLaws.{rowsOf-words, length-words, length-rowsOf, words-rowsOf}
 use Rattle.counters.specs.Counts.{Entry}
 use Rattle.counters.specs.Layout.{countRow}
-use Rattle.counters.specs.RowLaws.{rowAt, from-row}
+use Rattle.counters.specs.CodingLaws.{count-lawful}
+use Rattle.counters.specs.RowLaws.{from-row}
+use Rattle.counters.specs.Steps.{rowAt}
 use Rattle.counter_merge.specs.Passes.{stands, standing}
 
 -- ---- a row written word by word
@@ -71,7 +73,7 @@ rows-prefix i t u h k e = sym (spelled t h) ∙ ap (λ (l : List ℕ). rowsOf co
   where
     spelled : (t : List ℕ) → i * 2 ≤ length t → rowsOf countRow i (take (i * 2) t ++ []) ≡ rowsOf countRow i t
     spelled t h =
-        rw (length-rowsOf countRow i t, words-rowsOf countRow i t h) at (rowsOf-words countRow (rowsOf countRow i t) [])
+        rw (length-rowsOf countRow i t, words-rowsOf count-lawful i t h) at (rowsOf-words count-lawful (rowsOf countRow i t) [])
 
 -- rows in the words before a place
 pub rows-front : (i at : ℕ) (t : List ℕ) → i * 2 ≤ at → at ≤ length t → rowsOf countRow i (take at t) ≡ rowsOf countRow i t
@@ -125,7 +127,7 @@ module _ (n : ℕ) (t₀ : List ℕ) (fits : n * 2 ≤ length t₀) (i to : ℕ)
   moved-length : length moved ≡ (to + length row) * 2
   moved-length =
       let l = length-take-le (to * 2) t (omega arith) in
-      simp (length-append, length-words countRow row) (omega arith)
+      simp (length-append, length-words count-lawful row) (omega arith)
 
   joined-words : t′ ≡ moved ++ drop ((to + length row) * 2) t
   joined-words = written ∙ sym (append-assoc (take (to * 2) t) (flat (countRow .enc) row) (drop ((to + length row) * 2) t))

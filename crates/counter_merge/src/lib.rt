@@ -10,8 +10,7 @@ ghost use Rattle.rows.specs.Table.{rowsOf, Laid};
 ghost use Rattle.rows.specs.Keys.{keys, firstWord};
 ghost use Rattle.counters.specs.Layout.{countRow};
 ghost use Rattle.counters.specs.Held.{InOrder};
-ghost use Rattle.counters.specs.Steps.{transition, transitions};
-ghost use Rattle.counters.specs.RowLaws.{rowAt};
+ghost use Rattle.counters.specs.Steps.{rowAt, transition, transitions};
 ghost use Rattle.counter_merge.specs.Passes.{standing, replaced, hits, anyHit, markOne, marked, isNew, newRows, frontOne, fronts, backOne, backs, joined, frontLast, lastAt};
 ghost use Rattle.counter_merge.specs.Halves.{Halves, Apart};
 

@@ -33,7 +33,7 @@ fn should_shrink_set(t: &[u64], n: usize, k: u32, removed: u64) -> bool
 // Which of the eight sets shrink, by their removal counts.
 fn sets_shrink(t: &[u64], n: usize, removed: [u64; 8]) -> [bool; 8]
     requires { ⌜ n * 2 ≤ length (now t) ⌝ }
-    ensures { λ r. ⌜ r ≡ setsShrink (rowsOf countRow n (now (t .entry))) 0 removed ⌝ }
+    ensures { λ r. ⌜ r ≡ setsShrink (rowsOf countRow n (now (t .entry))) removed ⌝ }
 {
     let mut small = [false; 8];
     let mut k = 0;

@@ -1,7 +1,6 @@
 // What a batch counts and changes: its tallies, its transitions applied, and maintenance after them. It is lent as words, three a transition
 // (index, old, new).
 use counters::CounterMaintenance;
-use counters::Kind;
 ghost use mathlib.Core.Path.{_≡_};
 ghost use mathlib.Core.Bool.{_&&_};
 ghost use Prim.Native.Nat.{_*_, _≤_};
@@ -13,7 +12,17 @@ ghost use Rattle.counters.specs.Maintenance.{grownSets, maintained};
 ghost use Rattle.counters.specs.Layout.{countRow};
 ghost use Rattle.counters.specs.Batch.{changes, kept, countsAfter};
 ghost use Rattle.counters.specs.Held.{InOrder};
-ghost use Rattle.counters.specs.Steps.{transition, transitions, ofKind, leavesRow, some, applyOne};
+ghost use Rattle.counters.specs.Steps.{transition, transitions};
+ghost use Rattle.counter_steps.specs.Steps.{ofKind, leavesRow, passOf, applyOne};
+
+// The kinds of transitions that are counted: cells that come and go, rows that come and go, and bits that are cleared.
+pub enum Kind {
+    Birth,
+    Death,
+    Rise,
+    Fall,
+    Clear(u32),
+}
 
 // Whether a transition is of a kind.
 fn is_kind(kind: Kind, idx: u64, old: u64, new: u64) -> bool
@@ -98,8 +107,8 @@ pub fn apply_one(t: &mut [u64], n: usize, idx: u64, old: u64, new: u64, many: bo
 // Applies the kept transitions that leave a row (many), or those that leave none. Returns how many rows there are then.
 pub fn apply_some(t: &mut [u64], n: usize, b: &[u64], many: bool) -> usize
     requires { ⌜ InOrder n (now t) ⌝ }
-    requires { ⌜ length (countsAfter (some many (transitions (now b))) (rowsOf countRow n (now t))) * 2 ≤ length (now t) ⌝ }
-    ensures { λ r. ⌜ (r ≡ length (countsAfter (some many (transitions (now (b .entry)))) (rowsOf countRow n (now (t .entry))))) × (now (t .exit) ≡ rows-table.tableOf countRow (length (now (t .entry))) (countsAfter (some many (transitions (now (b .entry)))) (rowsOf countRow n (now (t .entry))))) ⌝ }
+    requires { ⌜ length (countsAfter (passOf many (transitions (now b))) (rowsOf countRow n (now t))) * 2 ≤ length (now t) ⌝ }
+    ensures { λ r. ⌜ (r ≡ length (countsAfter (passOf many (transitions (now (b .entry)))) (rowsOf countRow n (now (t .entry))))) × (now (t .exit) ≡ rows-table.tableOf countRow (length (now (t .entry))) (countsAfter (passOf many (transitions (now (b .entry)))) (rowsOf countRow n (now (t .entry))))) ⌝ }
 {
     let m = b.len() / 3;
     let mut rows = n;
@@ -114,7 +123,7 @@ pub fn apply_some(t: &mut [u64], n: usize, b: &[u64], many: bool) -> usize
 
 // The sets' removal counts, grown by the bits that kept transitions clear.
 fn grown_sets(b: &[u64], removed: [u64; 8]) -> [u64; 8]
-    ensures { λ r. ⌜ r ≡ grownSets (kept (transitions (now (b .entry)))) 0 removed ⌝ }
+    ensures { λ r. ⌜ r ≡ grownSets (kept (transitions (now (b .entry)))) removed ⌝ }
 {
     let mut small = [0u64; 8];
     let mut k = 0;

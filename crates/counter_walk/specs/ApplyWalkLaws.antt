@@ -16,9 +16,11 @@ use Rattle.counters.specs.declared.Counters.{Counters}
 use Rattle.counters.specs.declared.CounterTransition.{CounterTransition}
 use Rattle.counters.specs.Counts.{Entry}
 use Rattle.counters.specs.Layout.{countRow}
+use Rattle.counters.specs.CodingLaws.{count-lawful}
 use Rattle.counters.specs.WordLaws.{words-transitions}
-use Rattle.counters.specs.Steps.{transition, applyOne}
-use Rattle.counters.specs.ApplyLaws.{two-passes}
+use Rattle.counters.specs.Steps.{transition}
+use Rattle.counter_steps.specs.Steps.{applyOne}
+use Rattle.counter_steps.specs.PassLaws.{two-passes}
 use Rattle.counter_walk.specs.declared.Phase.{Phase}
 use Rattle.counter_walk.specs.declared.Phase.the-variants.{Free, Store, End}
 use Rattle.counter_walk.specs.declared.Walk.{Walk}
@@ -62,7 +64,7 @@ module _ (c : Counters) (t₀ : List ℕ) (bs : List CounterTransition) (s : Wal
         within = omega arith;
         long = seen .long;
         order = seen .order;
-        leads = rw (q .0, q .1, rowsOf-table countRow (length t₀) (goal false c t₀ bs)) (two-passes bs (entries c t₀) (rw (words-transitions bs) at (a .passed .judged .once)));
+        leads = rw (q .0, q .1, rowsOf-table count-lawful (length t₀) (goal false c t₀ bs)) (two-passes bs (entries c t₀) (rw (words-transitions bs) at (a .passed .judged .once)));
       }
 
   -- the last record of a pass

@@ -18,8 +18,8 @@ use Rattle.counters.specs.Layout.{countRow, holds, recordOf, tableOf, stateOf, 
 use Rattle.counters.specs.WordLaws.{words-transitions}
 use Rattle.counters.specs.Held.{Judged}
 use Rattle.counters.specs.Calls.{effect, batchCall}
-use Rattle.counters.specs.Steps.{some}
-use Rattle.counters.specs.KeptLaws.{first-fits}
+use Rattle.counter_steps.specs.Steps.{passOf}
+use Rattle.counter_steps.specs.KeptLaws.{first-fits}
 use Rattle.counter_walk.specs.declared.Phase.{Phase}
 use Rattle.counter_walk.specs.declared.Phase.the-variants.{Look, Again, Free, Store, End}
 use Rattle.counter_walk.specs.declared.Sums.{Sums}
@@ -28,11 +28,12 @@ use Rattle.counter_walk.specs.SomeLaws.{Seen}
 use Rattle.counter_walk.specs.SumsWalkLaws.{sumsOf, noSums}
 use Rattle.counter_walk.specs.Walk.{finished}
 
--- what the types of the arguments bound: lengths, and removal counts of 64 bits, which a batch with no removal leaves as they are
+-- what the types of the arguments bound: lengths, and eight removal counts of 64 bits, which a batch with no removal leaves as they are
 pub record Limits (c : Counters) (t₀ : List ℕ) (bs : List CounterTransition) : Type 0 where
   pub records : length bs < 2 ^ 61
   pub words : length t₀ < 2 ^ 62
   pub alive : c .maintenance .«alive_removed_since_shrink» < 2 ^ 64
+  pub sets : length (c .maintenance .«small_removed_since_shrink») ≡ 8
   pub small : (i : ℕ) → i < length (c .maintenance .«small_removed_since_shrink») → getD (c .maintenance .«small_removed_since_shrink») i 0 < 2 ^ 64
 
 -- the counts that the table has at entry
@@ -91,7 +92,7 @@ almostAfter c bs =
 
 -- the counts that a pass leads to
 abbrev pub goal : Bool → Counters → List ℕ → List CounterTransition → List Entry
-goal false c t₀ bs = countsAfter (some false bs) (entries c t₀)
+goal false c t₀ bs = countsAfter (passOf false bs) (entries c t₀)
 goal true c t₀ bs = countsAfter (kept bs) (entries c t₀)
 
 -- record `at` is to be applied: in the second pass (many), or in the first

@@ -22,7 +22,8 @@ use Rattle.counters.specs.Batch.{birth, death, kept, named, unallocated, falseO
 use Rattle.counters.specs.Layout.{roomOf, recordOf, tableOf, stateOf, wordsOf}
 use Rattle.counters.specs.WordLaws.{words-whole, words-transitions}
 use Rattle.counters.specs.Calls.{effect, batchCall}
-use Rattle.counters.specs.Steps.{transitions, some}
+use Rattle.counters.specs.Steps.{transitions}
+use Rattle.counter_steps.specs.Steps.{passOf}
 use Rattle.counters.specs.JudgeLaws as judge
 use Rattle.counters.specs.JudgeLaws.{judge-unallocated, judge-repeated, judge-false-old, judge-off-total, rows-after, judge-full, judge-taken, total-of}
 use Rattle.counters.specs.RowLaws.{in-order}
@@ -64,12 +65,12 @@ module _ (c : Counters) (t₀ : List ℕ) (bs : List CounterTransition) where
 
   -- of an empty batch both are over
   seen-none : Passed c t₀ bs → length bs ≤ 0 → Seen true bs (length t₀) (goal true c t₀ bs) 0 (c .stored) t₀
-  unfolding some kept keep
+  unfolding passOf kept keep
   seen-none p h =
       let e : bs ≡ [] = drop-of-length-le bs h in
       record { within = omega arith; long = refl; order = in-order c t₀ (p .judged .holding); leads = rw e (none (entries c t₀)) }
     where
-      none : (es : List Entry) → countsAfter (some true []) es ≡ countsAfter (kept []) es
+      none : (es : List Entry) → countsAfter (passOf true []) es ≡ countsAfter (kept []) es
       none es = refl
 
   module _ (s : Walk) (u : SummedTo c t₀ bs (length bs) s) (sums-are : s .sums ≡ allSums c t₀ bs) (twice-is : s .repeated ≡ repeated (named (kept bs)))

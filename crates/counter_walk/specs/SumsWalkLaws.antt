@@ -1,9 +1,9 @@
 -- The sums of a batch's records: record by record, and over the whole batch.
 -- Assumes nothing.
-use mathlib.Core.Path.{_≡_, refl, sym, ap, ap₂, _∙_}
+use mathlib.Core.Path.{_≡_, refl, sym, ap, _∙_}
 use mathlib.Core.Bool.{Bool, true, false, _&&_, _||_}
 use mathlib.Core.List.{List, [], _∷_, _++_}
-use Prim.Native.Nat.{ℕ, suc, _+_, _≤_, _<_, _^_}
+use Prim.Native.Nat.{ℕ, _+_, _≤_, _<_, _^_}
 use native.Mathlib.Nat.{add-zero}
 use native.Mathlib.Omega.{arith}
 use lib.Dec.{eqb}
@@ -17,6 +17,8 @@ use Rattle.counters.specs.Counts.{Entry}
 use Rattle.counters.specs.Maintenance.{grown, grownSets, falls, rises, clears, maintained}
 use Rattle.counters.specs.Batch.{changes, birth, death, kept, named, unallocated, falseOld}
 use Rattle.counters.specs.StepLaws.{counted, count-one, elem-named}
+use Rattle.counters.specs.EachLaws.{each-same, each-all}
+use Rattle.counters.specs.MaintenanceLaws.{grown-at}
 use Rattle.counter_walk.specs.declared.Sums.{Sums}
 use Rattle.counter_walk.specs.Walk.{sumsWith}
 
@@ -49,27 +51,27 @@ module _ (xs ys : List CounterTransition) where
   grown-append : (p : CounterTransition → Bool) (r : ℕ) → grown (grown r (length (keep p xs))) (length (keep p ys)) ≡ grown r (length (keep p (xs ++ ys)))
   grown-append p r = grown-again r (length (keep p xs)) (length (keep p ys)) ∙ ap (grown r) (count-append p)
 
-  sets-append : (k : ℕ) (rs : List ℕ) → grownSets ys k (grownSets xs k rs) ≡ grownSets (xs ++ ys) k rs
+  sets-append : (rs : List ℕ) → grownSets ys (grownSets xs rs) ≡ grownSets (xs ++ ys) rs
   unfolding grownSets
-  sets-append k [] = refl
-  sets-append k (r ∷ rs) = ap₂ (λ (n : ℕ) (ns : List ℕ). n ∷ ns) (grown-append (clears k) r) (sets-append (suc k) rs)
+  sets-append rs =
+      each-same (λ k. grown (getD (grownSets xs rs) k 0) (length (keep (clears k) ys))) (λ k. grown (getD rs k 0) (length (keep (clears k) (xs ++ ys)))) 0 8 (λ k a b.
+      ap (λ (n : ℕ). grown n (length (keep (clears k) ys))) (grown-at xs rs k (omega arith)) ∙ grown-append (clears k) (getD rs k 0))
 
   pub maintained-append : (m : CounterMaintenance) → maintained ys (maintained xs m) ≡ maintained (xs ++ ys) m
   unfolding maintained
-  maintained-append m = rw (grown-append falls (m .«alive_removed_since_shrink»), sets-append 0 (m .«small_removed_since_shrink»))
+  maintained-append m = rw (grown-append falls (m .«alive_removed_since_shrink»), sets-append (m .«small_removed_since_shrink»))
 
 -- counts of 64 bits are left as they are where nothing is removed
-sets-settled : (k : ℕ) (rs : List ℕ) → ((i : ℕ) → i < length rs → getD rs i 0 < 2 ^ 64) → grownSets [] k rs ≡ rs
+sets-settled : (rs : List ℕ) → length rs ≡ 8 → ((i : ℕ) → i < length rs → getD rs i 0 < 2 ^ 64) → grownSets [] rs ≡ rs
 unfolding grownSets grown keep
-sets-settled k [] h = refl
-sets-settled k (r ∷ rs) h = ap₂ (λ (n : ℕ) (ns : List ℕ). n ∷ ns) (omega (arith, h 0 (omega arith))) (sets-settled (suc k) rs (λ i g. h (suc i) (omega arith)))
+sets-settled rs e h = each-same (λ k. grown (getD rs k 0) (length (keep (clears k) []))) (λ k. getD rs k 0) 0 8 (λ k a b. omega (arith, h k (omega arith))) ∙ each-all 8 rs e
 
-pub in-range : (m : CounterMaintenance) → m .«alive_removed_since_shrink» < 2 ^ 64
+pub in-range : (m : CounterMaintenance) → m .«alive_removed_since_shrink» < 2 ^ 64 → length (m .«small_removed_since_shrink») ≡ 8
     → ((i : ℕ) → i < length (m .«small_removed_since_shrink») → getD (m .«small_removed_since_shrink») i 0 < 2 ^ 64) → maintained [] m ≡ m
 unfolding maintained grown keep
-in-range m h k =
+in-range m h s k =
     let e : grown (m .«alive_removed_since_shrink») 0 ≡ m .«alive_removed_since_shrink» = omega arith in
-    rw (e, sets-settled 0 (m .«small_removed_since_shrink») k)
+    rw (e, sets-settled (m .«small_removed_since_shrink») s k)
 
 -- ---- a transition and those after it
 pub or-assoc : (a b c : Bool) → (a || (b || c)) ≡ ((a || b) || c)

@@ -17,14 +17,15 @@ use Rattle.rows.specs.Table.{rowsOf}
 use Rattle.counters.specs.declared.Counters.{Counters}
 use Rattle.counters.specs.declared.CounterMaintenance.{CounterMaintenance}
 use Rattle.counters.specs.declared.CounterTransition.{CounterTransition}
-use Rattle.counters.specs.declared.Kind.{Kind}
-use Rattle.counters.specs.declared.Kind.the-variants.{Birth, Death, Rise, Fall}
+use Rattle.counter_steps.specs.declared.Kind.{Kind}
+use Rattle.counter_steps.specs.declared.Kind.the-variants.{Birth, Death, Rise, Fall}
 use Rattle.counters.specs.Counts.{Entry}
 use Rattle.counters.specs.Layout.{countRow, holds}
 use Rattle.counters.specs.Batch.{changes, kept, unallocated, falseOld}
 use Rattle.counters.specs.Maintenance.{maintained}
 use Rattle.counters.specs.RowLaws.{in-order}
-use Rattle.counters.specs.Steps.{transition, transitions, ofKind, applyOne}
+use Rattle.counters.specs.Steps.{transition, transitions}
+use Rattle.counter_steps.specs.Steps.{ofKind, applyOne}
 use Rattle.counter_walk.specs.declared.Phase.{Phase}
 use Rattle.counter_walk.specs.declared.Phase.the-variants.{Look, Again, Free, Store, End}
 use Rattle.counter_walk.specs.declared.Sums.{Sums}

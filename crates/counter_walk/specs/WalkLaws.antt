@@ -39,7 +39,7 @@ module _ (c : Counters) (t₀ : List ℕ) (bs : List CounterTransition) where
         holding = h;
         within = omega arith;
         tallies = omega arith;
-        settled = in-range (c .maintenance) (ok .alive) (ok .small);
+        settled = in-range (c .maintenance) (ok .alive) (ok .sets) (ok .small);
         leads = refl;
       }
 

@@ -5,9 +5,9 @@
 // the whole batch. Then it applies the records that free a row, and at last those that store one.
 use base::Answer;
 use base::Refusal;
+use counter_steps::Kind;
 use counters::CounterMaintenance;
 use counters::Counters;
-use counters::Kind;
 use counters::NextIdx;
 ghost use mathlib.Core.Path.{_≡_};
 ghost use mathlib.Core.Bool.{_||_};
@@ -16,7 +16,8 @@ ghost use lib.ListN.{length};
 ghost use Rattle.rows.specs.Table.{rowsOf};
 ghost use Rattle.counters.specs.Layout.{countRow};
 ghost use Rattle.counters.specs.Held.{InOrder};
-ghost use Rattle.counters.specs.Steps.{transition, applyOne};
+ghost use Rattle.counters.specs.Steps.{transition};
+ghost use Rattle.counter_steps.specs.Steps.{applyOne};
 ghost use Rattle.counter_walk.specs.Walk as walk;
 ghost use Rattle.counter_walk.specs.Walk.{sumsWith, moved, onTo, begun, looked, askedAgain, applied, appliedTable, firstPhase, started, withRows};
 

@@ -1,41 +1,37 @@
--- The kept transitions that leave no row, and then those that leave one, applied to the table one after the other: each fits it.
+-- Counts by ascending index stay so where counts are set, and stand in a table.
 -- Assumes nothing.
-use mathlib.Core.Path.{_≡_, refl, sym, ap, _∙_}
-use mathlib.Core.Bool.{Bool, true, false, _&&_, false≢true}
+use mathlib.Core.Path.{_≡_, refl}
+use mathlib.Core.Bool.{true}
 use mathlib.Core.List.{List, [], _∷_, map}
 use Prim.Native.Nat.{ℕ, suc, _*_, _≤_, _<_}
 use native.Mathlib.Omega.{arith}
-use lib.Dec.{leb, ltb}
-use lib.ListN.{length, drop}
-use borrow.Author.Tests.{le-leb, lt-leb, le-ltb, lt-ltb, leb-true, leb-false}
-use native.Mathlib.Decide.{decLt}
-use Rattle.base.specs.Logic.{pick, all, keep, fold, repeated, ascendingFrom}
-use Rattle.base.specs.Laws.{and-left, and-right}
-use Rattle.base.specs.ListLaws.{all-kept, split-order, fold-append}
+use lib.ListN.{length}
+use Rattle.base.specs.Logic.{fold, ascendingFrom}
 use Rattle.rows.specs.Table.{rowsOf, tableOf}
 use Rattle.rows.specs.TableLaws.{rowsOf-table, laid-table}
 use Rattle.rows.specs.Keys.{keys, firstWord, place}
+use Rattle.rows.specs.KeyLaws.{putRows}
 use Rattle.rows.specs.OrderLaws.{putRows-ascending}
 use Rattle.counters.specs.declared.CounterTransition.{CounterTransition}
 use Rattle.counters.specs.Counts.{Entry, rowOf, setCount}
 use Rattle.counters.specs.Layout.{countRow}
-use Rattle.counters.specs.Batch.{changes, kept, named, countsAfter}
-use Rattle.counters.specs.Steps.{transition, leavesRow, some, applyOne}
+use Rattle.counters.specs.CodingLaws.{count-lawful}
+use Rattle.counters.specs.Batch.{countsAfter}
 use Rattle.counters.specs.Held.{InOrder}
 use Rattle.counters.specs.RowLaws.{indices}
 use Rattle.counters.specs.SetLaws.{set-grows, set-shrinks}
 use Rattle.counters.specs.CountLaws.{row-within, row-ascending}
-use Rattle.counters.specs.BatchLaws.{countsAfter-order}
 
-abbrev Ascends : List Entry → Type 0
+-- counts by ascending index
+abbrev pub Ascends : List Entry → Type 0
 Ascends es = ascendingFrom 0 (map (λ e. e .idx) es) ≡ true
 
 -- ---- counts in order, as a table
 pub in-order-table : (len : ℕ) (es : List Entry) → length es * 2 ≤ len → Ascends es → InOrder (length es) (tableOf countRow len es)
 in-order-table len es h a =
     record {
-      laid = laid-table countRow len es h;
-      ascends = rw (← indices (length es) (tableOf countRow len es), rowsOf-table countRow len es) a;
+      laid = laid-table count-lawful len es h;
+      ascends = rw (← indices (length es) (tableOf countRow len es), rowsOf-table count-lawful len es) a;
     }
 
 pub in-order-ascends : (n : ℕ) (t : List ℕ) → InOrder n t → Ascends (rowsOf countRow n t)
@@ -44,7 +40,7 @@ in-order-ascends n t ok = rw (indices n t) (ok .ascends)
 -- ---- one count set
 module _ (i m : ℕ) (es : List Entry) (a : Ascends es) where
   pub set-ascends : Ascends (setCount i m es)
-  unfolding setCount
+  unfolding setCount putRows
   set-ascends = putRows-ascending (λ e. e .idx) i (suc i) (rowOf i m) es (omega arith) (row-within i m) (row-ascending i m) a
 
   ok : InOrder (length es) (tableOf countRow (length es * 2) es)
@@ -52,12 +48,12 @@ module _ (i m : ℕ) (es : List Entry) (a : Ascends es) where
 
   pub set-more : 2 ≤ m → length es ≤ length (setCount i m es)
   set-more h =
-      rw (rowsOf-table countRow (length es * 2) es) at
+      rw (rowsOf-table count-lawful (length es * 2) es) at
       (set-grows (length es) (tableOf countRow (length es * 2) es) ok i m (place i (keys firstWord 2 (length es) (tableOf countRow (length es * 2) es))) refl h)
 
   pub set-less : m < 2 → length (setCount i m es) ≤ length es
   set-less h =
-      rw (rowsOf-table countRow (length es * 2) es) at
+      rw (rowsOf-table count-lawful (length es * 2) es) at
       (set-shrinks (length es) (tableOf countRow (length es * 2) es) ok i m (place i (keys firstWord 2 (length es) (tableOf countRow (length es * 2) es))) refl h)
 
 -- ---- many
@@ -65,110 +61,3 @@ pub after-ascends : (xs : List CounterTransition) (es : List Entry) → Ascends 
 unfolding countsAfter fold
 after-ascends [] es a = a
 after-ascends (x ∷ xs) es a = after-ascends xs (setCount (x .idx .0) (x .«new_raw») es) (set-ascends (x .idx .0) (x .«new_raw») es a)
-
-pub after-more : (xs : List CounterTransition) (es : List Entry) → Ascends es → all (leavesRow true) xs ≡ true → length es ≤ length (countsAfter xs es)
-unfolding countsAfter fold all
-after-more [] es a h = omega arith
-after-more (x ∷ xs) es a h =
-    let i = x .idx .0 in
-    let m = x .«new_raw» in
-    let l = leb-true 2 m (and-left (leb 2 m) (all (leavesRow true) xs) h) in
-    omega (arith, set-more i m es a l, after-more xs (setCount i m es) (set-ascends i m es a) (and-right (leb 2 m) (all (leavesRow true) xs) h))
-
-few : (x : CounterTransition) → leavesRow false x ≡ true → x .«new_raw» < 2
-few x h = go (leb 2 (x .«new_raw»)) refl h
-  where
-    go : (b : Bool) → leb 2 (x .«new_raw») ≡ b → leavesRow false x ≡ true → x .«new_raw» < 2
-    go true e h = absurd (false≢true (rw e at h))
-    go false e h = leb-false 2 (x .«new_raw») e
-
-pub after-less : (xs : List CounterTransition) (es : List Entry) → Ascends es → all (leavesRow false) xs ≡ true → length (countsAfter xs es) ≤ length es
-unfolding countsAfter fold all
-after-less [] es a h = omega arith
-after-less (x ∷ xs) es a h =
-    let i = x .idx .0 in
-    let m = x .«new_raw» in
-    let l = few x (and-left (leavesRow false x) (all (leavesRow false) xs) h) in
-    omega (arith, set-less i m es a l, after-less xs (setCount i m es) (set-ascends i m es a) (and-right (leavesRow false x) (all (leavesRow false) xs) h))
-
--- ---- a transition in its turn
-pub some-all : (many : Bool) (xs : List CounterTransition) → all (leavesRow many) (some many xs) ≡ true
-unfolding some
-some-all many xs = all-kept (leavesRow many) (kept xs)
-
-module _ (many : Bool) (x : CounterTransition) (xs : List CounterTransition) (es : List Entry) (a : Ascends es) where
-  -- the others are applied to what it leaves
-  pub turn : countsAfter (some many (x ∷ xs)) es ≡ countsAfter (some many xs) (applyOne many x es)
-  unfolding some kept keep countsAfter fold applyOne
-  turn = go (changes x)
-    where
-      go₂ : (b : Bool) → countsAfter (pick b (x ∷ keep (leavesRow many) (keep changes xs)) (keep (leavesRow many) (keep changes xs))) es
-          ≡ countsAfter (keep (leavesRow many) (keep changes xs)) (pick b (setCount (x .idx .0) (x .«new_raw») es) es)
-      go₂ true = refl
-      go₂ false = refl
-
-      go : (b : Bool) → countsAfter (keep (leavesRow many) (pick b (x ∷ keep changes xs) (keep changes xs))) es
-          ≡ countsAfter (keep (leavesRow many) (keep changes xs)) (pick (b && leavesRow many x) (setCount (x .idx .0) (x .«new_raw») es) es)
-      go true = go₂ (leavesRow many x)
-      go false = refl
-
-  pub one-ascends : Ascends (applyOne many x es)
-  unfolding applyOne
-  one-ascends = go (changes x && leavesRow many x)
-    where
-      go : (b : Bool) → Ascends (pick b (setCount (x .idx .0) (x .«new_raw») es) es)
-      go true = set-ascends (x .idx .0) (x .«new_raw») es a
-      go false = a
-
-  -- it fits where the counts before and after all of them do
-  pub one-fits : (len : ℕ) → length es * 2 ≤ len → length (countsAfter (some many (x ∷ xs)) es) * 2 ≤ len → length (applyOne many x es) * 2 ≤ len
-  unfolding applyOne
-  one-fits len h k = go (changes x && leavesRow many x) refl
-    where
-      set : List Entry
-      set = setCount (x .idx .0) (x .«new_raw») es
-
-      fits : (m : Bool) → leavesRow m x ≡ true → length (countsAfter (some m xs) set) * 2 ≤ len → length set * 2 ≤ len
-      fits true l k = omega (arith, after-more (some true xs) set (set-ascends (x .idx .0) (x .«new_raw») es a) (some-all true xs))
-      fits false l k = omega (arith, set-less (x .idx .0) (x .«new_raw») es a (few x l))
-
-      go : (b : Bool) → (changes x && leavesRow many x) ≡ b → length (pick b set es) * 2 ≤ len
-      go true e =
-          let q : countsAfter (some many (x ∷ xs)) es ≡ countsAfter (some many xs) set =
-          turn ∙ ap (λ (b : Bool). countsAfter (some many xs) (pick b set es)) e in
-          fits many (and-right (changes x) (leavesRow many x) e) (rw q at k)
-      go false e = h
-
--- whether it is due: it leaves a row, or none
-pub leaves-many : (i old new : ℕ) → leb 2 new ≡ leavesRow true (transition i old new)
-leaves-many i old new = refl
-
-pub leaves-few : (i old new : ℕ) → ltb new 2 ≡ leavesRow false (transition i old new)
-leaves-few i old new =
-    elim (decLt new 2) [
-      | yes h ↦ rw (lt-ltb new 2 h, lt-leb 2 new h)
-      | no h ↦ rw (le-ltb new 2 (omega arith), le-leb 2 new (omega arith))
-    ]
-
--- ---- what applying one leaves, by whether it is due
-module _ (many : Bool) (x : CounterTransition) (es : List Entry) where
-  pub one-due : (changes x && leavesRow many x) ≡ true → applyOne many x es ≡ setCount (x .idx .0) (x .«new_raw») es
-  unfolding applyOne
-  one-due e = rw e
-
-  pub one-other : (changes x && leavesRow many x) ≡ false → applyOne many x es ≡ es
-  unfolding applyOne
-  one-other e = rw e
-
--- no transition is left
-pub some-none : (many : Bool) (es : List Entry) → countsAfter (some many []) es ≡ es
-unfolding some kept keep countsAfter fold
-some-none many es = refl
-
--- ---- first those that leave no row, then those that leave one: together they are the batch
-pub two-passes : (ts : List CounterTransition) (es : List Entry) → repeated (named (kept ts)) ≡ false
-    → countsAfter (some true ts) (countsAfter (some false ts) es) ≡ countsAfter (kept ts) es
-unfolding some countsAfter
-two-passes ts es once =
-    sym (countsAfter-order (split-order (leavesRow true) (kept ts)) es once
-    ∙ fold-append (λ t. setCount (t .idx .0) (t .«new_raw»)) (keep (leavesRow false) (kept ts)) (keep (leavesRow true) (kept ts)) es)

@@ -1,14 +1,14 @@
 -- What a batch of kept transitions does to each count; that its order doesn't matter; how many counts are stored after it.
 -- Assumes nothing.
-use mathlib.Core.Path.{_≡_, refl, sym, ap, ap₂, _∙_}
+use mathlib.Core.Path.{_≡_, refl, sym, ap, _∙_}
 use mathlib.Core.Logic.{_↔_}
 use mathlib.Core.Bool.{Bool, true, false, not, _&&_}
 use mathlib.Core.List.{List, [], _∷_, Permᴰ·map}
 use mathlib.Core.List.{List·Permᴰ as Reordered}
-use Prim.Native.Nat.{ℕ, suc, _+_, _≤_, _<_, max}
+use Prim.Native.Nat.{ℕ, _+_, _≤_, _<_, max}
 use native.Mathlib.Omega.{arith}
 use native.Mathlib.Decide.{decLe}
-use lib.ListN.{length}
+use lib.ListN.{length, getD}
 use lib.Dec.{leb, ltb, eqb}
 use borrow.Author.Tests.{le-leb, lt-leb, leb-false, le-ltb, ltb-false, eqb-true, eqb-false, eq-eqb, not-false}
 use Rattle.base.specs.Logic.{pick, any, keep, fold, elem, repeated}
@@ -20,6 +20,7 @@ use Rattle.counters.specs.Maintenance.{falls, rises, clears, grown, grow
 use Rattle.counters.specs.Batch.{kept, named, unallocated, births, deaths, falseOld, offTotal, countsAfter, stateAfter, applyKept, applyBatch}
 use Rattle.counters.specs.Layout.{ordered}
 use Rattle.counters.specs.CountLaws.{storedOf, stored-two, stored-other, storedAt-setCount, countAt-setCount, setCount-swap, ordered-setCount, length-rowOf, length-setCount}
+use Rattle.counters.specs.EachLaws.{each-same}
 
 -- ---- the count at each index
 module _ (i : ℕ) (ts : List CounterTransition) (es : List Entry) where
@@ -107,14 +108,13 @@ module _ {ts us : List CounterTransition} (r : Reordered ts us) where
   unfolding offTotal
   offTotal-order live = rw (births-order, deaths-order)
 
-  grownSets-order : (k : ℕ) (rs : List ℕ) → grownSets ts k rs ≡ grownSets us k rs
+  grownSets-order : (rs : List ℕ) → grownSets ts rs ≡ grownSets us rs
   unfolding grownSets
-  grownSets-order k [] = refl
-  grownSets-order k (n ∷ rs) = ap₂ (λ (x : ℕ) (xs : List ℕ). x ∷ xs) (ap (grown n) (count-order (clears k) r)) (grownSets-order (suc k) rs)
+  grownSets-order rs = each-same (λ k. grown (getD rs k 0) (length (keep (clears k) ts))) (λ k. grown (getD rs k 0) (length (keep (clears k) us))) 0 8 (λ k a b. ap (grown (getD rs k 0)) (count-order (clears k) r))
 
   pub maintained-order : (m : CounterMaintenance) → maintained ts m ≡ maintained us m
   unfolding maintained
-  maintained-order m = rw (count-order falls r, grownSets-order 0 (m .«small_removed_since_shrink»))
+  maintained-order m = rw (count-order falls r, grownSets-order (m .«small_removed_since_shrink»))
 
   pub named-order : repeated (named ts) ≡ repeated (named us)
   named-order = repeated-order (Permᴰ·map (λ t. t .idx .0) r)

@@ -12,10 +12,11 @@ use borrow.Author.Tests.{le-ltb, lt-ltb, le-leb, lt-leb, leb-true, leb-false, lt
 use Rattle.base.specs.Logic.{pick, all, keep, ascendingFrom}
 use Rattle.base.specs.Laws.{and-left, and-right, and-both, ascending-head, ascending-tail}
 use Rattle.base.specs.ListLaws.{all-weaker}
-use Rattle.rows.specs.Keys.{putRows}
 use Rattle.counters.specs.Counts.{Entry, storedAt, countAt, rowOf, setCount}
 use Rattle.counters.specs.Layout.{sound, ordered}
-use Rattle.rows.specs.OrderLaws.{within, putRows-all, putRows-again, putRows-ascending, putRows-swap}
+use Rattle.rows.specs.OrderLaws.{within, putRows-again, putRows-ascending, putRows-swap}
+use Rattle.rows.specs.RowLaws.{all-put}
+use Rattle.rows.specs.KeyLaws.{putRows}
 
 -- what a count stores: 0 and 1 store nothing
 abbrev pub storedOf : ℕ → ℕ
@@ -145,12 +146,12 @@ module _ (i n : ℕ) where
 
   -- the later of two counts set at one index stays
   pub setCount-again : (m : ℕ) (es : List Entry) → setCount i m (setCount i n es) ≡ setCount i m es
-  unfolding setCount
+  unfolding setCount putRows
   setCount-again m es = putRows-again index i (suc i) (rowOf i n) es (omega arith) row-within (rowOf i m)
 
 -- counts set at two indices come to the same in either order
 pub setCount-swap : (i n j m : ℕ) (es : List Entry) → (i ≡ j → ⊥) → setCount j m (setCount i n es) ≡ setCount i n (setCount j m es)
-unfolding setCount
+unfolding setCount putRows
 setCount-swap i n j m es h =
     elim (decLe (suc i) j) [
       | yes g ↦ putRows-swap index i (suc i) j (suc j) (rowOf i n) (rowOf j m) es (omega arith) g (omega arith) (row-within i n) (row-within j m)
@@ -243,11 +244,11 @@ module _ (next : ℕ) where
 
     -- they stay in order where a count is set below the next index
     pub ordered-setCount : (i n : ℕ) → i < next → ordered next (setCount i n es) ≡ true
-    unfolding ordered setCount
+    unfolding ordered setCount putRows
     ordered-setCount i n h =
         and-both (ascendingFrom 0 (map index (setCount i n es))) (all (sound next) (setCount i n es))
         (putRows-ascending index i (suc i) (rowOf i n) es (omega arith) (row-within i n) (row-ascending i n) ascends)
-        (putRows-all index (sound next) i (suc i) (rowOf i n) es (row-sound i n next h) sounds)
+        (all-put index i (suc i) (rowOf i n) es (sound next) sounds (row-sound i n next h))
 
 -- ---- counts in order that agree at every index are the same
 -- the first rows of both: neither index is before the other

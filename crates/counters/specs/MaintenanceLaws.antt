@@ -1,10 +1,10 @@
 -- The sets that a count is in, the members of a set, and the rules of shrinking, as the code decides them.
 -- Assumes nothing.
-use mathlib.Core.Path.{_≡_, refl, sym, ap, _∙_}
+use mathlib.Core.Path.{_≡_, sym, _∙_}
 use mathlib.Core.Bool.{Bool, true, false}
-use mathlib.Core.List.{List, [], _∷_}
-use Prim.Native.Nat.{ℕ, zero, suc, _+_, _-_, _*_, _/_, _%_, _^_, _≤_, _<_}
-use native.Mathlib.Nat.{zero-add, add-zero, suc-add, add-suc, zero-div, div-eq-of-lt, lt-of-lt-of-le}
+use mathlib.Core.List.{List, _∷_}
+use Prim.Native.Nat.{ℕ, suc, _+_, _-_, _*_, _/_, _%_, _^_, _≤_, _<_}
+use native.Mathlib.Nat.{zero-div, div-eq-of-lt, lt-of-lt-of-le}
 use native.Mathlib.Numerals.{add-one}
 use native.Mathlib.Omega.{arith}
 use native.Mathlib.Decide.{decLe}
@@ -26,7 +26,9 @@ use Rattle.counters.specs.declared.CounterTransition.{CounterTransition}
 use Rattle.counters.specs.Maintenance.{standard, adjustShrinkThreshold, adjusted, setMinimum, shouldShrink, setsShrink, resetWhere, decide, shrunk, grown, grownSets, clears}
 use Rattle.counters.specs.Layout.{countRow, withMaintenance, stateOf, holds}
 use Rattle.counters.specs.Calls.{onState, decided, shrinkCall}
-use Rattle.counters.specs.RowLaws.{rowAt, from-row}
+use Rattle.counters.specs.RowLaws.{from-row}
+use Rattle.counters.specs.Steps.{rowAt}
+use Rattle.counters.specs.EachLaws.{length-each, each-at}
 
 -- ---- the sets that a count is in
 module _ (k n : ℕ) where
@@ -135,32 +137,21 @@ module _ {A : Type 0} (d : A) (filled wanted : List A) (k : ℕ) (same : take k 
 
 -- ---- the rule of the sets, at any of them
 module _ (es : List Entry) where
-  pub length-sets : (k : ℕ) (rs : List ℕ) → length (setsShrink es k rs) ≡ length rs
+  pub length-sets : (rs : List ℕ) → length (setsShrink es rs) ≡ 8
   unfolding setsShrink
-  length-sets k [] = refl
-  length-sets k (r ∷ rs) = ap suc (length-sets (suc k) rs)
+  length-sets rs = length-each (λ k. shouldShrink (length (members k es)) (getD rs k 0) setMinimum) 0 8
 
-  set-from : (k : ℕ) (rs : List ℕ) (i : ℕ) → i < length rs → getD (setsShrink es k rs) i false ≡ shouldShrink (length (members (k + i) es)) (getD rs i 0) setMinimum
+  pub set-at : (rs : List ℕ) (i : ℕ) → i < 8 → getD (setsShrink es rs) i false ≡ shouldShrink (length (members i es)) (getD rs i 0) setMinimum
   unfolding setsShrink
-  set-from k [] i h = absurd (omega arith)
-  set-from k (r ∷ rs) zero h = rw (add-zero k)
-  set-from k (r ∷ rs) (suc i) h = set-from (suc k) rs i (omega arith) ∙ rw (suc-add k i, add-suc k i)
+  set-at rs i h = each-at (λ k. shouldShrink (length (members k es)) (getD rs k 0) setMinimum) 8 i false h
 
-  pub set-at : (rs : List ℕ) (i : ℕ) → i < length rs → getD (setsShrink es 0 rs) i false ≡ shouldShrink (length (members i es)) (getD rs i 0) setMinimum
-  set-at rs i h = set-from 0 rs i h ∙ rw (zero-add i)
-
-pub length-reset : (ys : List Bool) (rs : List ℕ) → length (resetWhere ys rs) ≡ length rs
+pub length-reset : (ys : List Bool) (rs : List ℕ) → length (resetWhere ys rs) ≡ 8
 unfolding resetWhere
-length-reset [] rs = refl
-length-reset (y ∷ ys) [] = refl
-length-reset (y ∷ ys) (r ∷ rs) = ap suc (length-reset ys rs)
+length-reset ys rs = length-each (λ k. pick (getD ys k false) 0 (getD rs k 0)) 0 8
 
-pub reset-at : (ys : List Bool) (rs : List ℕ) (i : ℕ) → i < length rs → getD (resetWhere ys rs) i 0 ≡ pick (getD ys i false) 0 (getD rs i 0)
+pub reset-at : (ys : List Bool) (rs : List ℕ) (i : ℕ) → i < 8 → getD (resetWhere ys rs) i 0 ≡ pick (getD ys i false) 0 (getD rs i 0)
 unfolding resetWhere
-reset-at [] rs i h = refl
-reset-at (y ∷ ys) [] i h = absurd (omega arith)
-reset-at (y ∷ ys) (r ∷ rs) zero h = refl
-reset-at (y ∷ ys) (r ∷ rs) (suc i) h = reset-at ys rs i (omega arith)
+reset-at ys rs i h = each-at (λ k. pick (getD ys k false) 0 (getD rs k 0)) 8 i 0 h
 
 -- ---- maintenance after the decisions
 -- maintenance with other removal counts
@@ -190,7 +181,7 @@ module _ (c : Counters) (t : List ℕ) (saved : ℕ) where
 
   pub shrink-held : (alive : Bool) (small : List Bool) (m : CounterMaintenance) → holds c t ≡ true
       → alive ≡ shouldShrink (c .stored) (c .maintenance .«alive_removed_since_shrink») (c .maintenance .«min_alive_removed_before_shrink»)
-      → small ≡ setsShrink (rowsOf countRow (c .stored) t) 0 (c .maintenance .«small_removed_since_shrink»)
+      → small ≡ setsShrink (rowsOf countRow (c .stored) t) (c .maintenance .«small_removed_since_shrink»)
       → m ≡ shrunk standard saved (record { alive = alive; small = small }) (c .maintenance)
       → record { answer = Taken; alive = alive; small = small; counters = withMaintenance c m } ≡ shrinkCall standard c t saved
   unfolding shrinkCall decided onState decide stateOf
@@ -198,16 +189,10 @@ module _ (c : Counters) (t : List ℕ) (saved : ℕ) where
 
 -- ---- the sets' removal counts after kept transitions
 module _ (ts : List CounterTransition) where
-  pub length-grown : (k : ℕ) (rs : List ℕ) → length (grownSets ts k rs) ≡ length rs
+  pub length-grown : (rs : List ℕ) → length (grownSets ts rs) ≡ 8
   unfolding grownSets
-  length-grown k [] = refl
-  length-grown k (r ∷ rs) = ap suc (length-grown (suc k) rs)
+  length-grown rs = length-each (λ k. grown (getD rs k 0) (length (keep (clears k) ts))) 0 8
 
-  grown-from : (k : ℕ) (rs : List ℕ) (i : ℕ) → i < length rs → getD (grownSets ts k rs) i 0 ≡ grown (getD rs i 0) (length (keep (clears (k + i)) ts))
+  pub grown-at : (rs : List ℕ) (i : ℕ) → i < 8 → getD (grownSets ts rs) i 0 ≡ grown (getD rs i 0) (length (keep (clears i) ts))
   unfolding grownSets
-  grown-from k [] i h = absurd (omega arith)
-  grown-from k (r ∷ rs) zero h = ap (λ (j : ℕ). grown r (length (keep (clears j) ts))) (omega arith)
-  grown-from k (r ∷ rs) (suc i) h = grown-from (suc k) rs i (omega arith) ∙ ap (λ (j : ℕ). grown (getD rs i 0) (length (keep (clears j) ts))) (omega arith)
-
-  pub grown-at : (rs : List ℕ) (i : ℕ) → i < length rs → getD (grownSets ts 0 rs) i 0 ≡ grown (getD rs i 0) (length (keep (clears i) ts))
-  grown-at rs i h = grown-from 0 rs i h ∙ rw (zero-add i)
+  grown-at rs i h = each-at (λ k. grown (getD rs k 0) (length (keep (clears k) ts))) 8 i 0 h

@@ -20,11 +20,8 @@ use Rattle.counters.specs.Counts.{Entry, storedAt}
 use Rattle.counters.specs.declared.Counters.{Counters}
 use Rattle.counters.specs.Layout.{countRow, sound, ordered, holds}
 use Rattle.counters.specs.LayoutLaws.{held}
+use Rattle.counters.specs.Steps.{rowAt}
 use Rattle.counters.specs.Held.{InOrder}
-
--- row k of a table
-abbrev pub rowAt : List ℕ → ℕ → Entry
-rowAt t k = record { idx = getD t (k * 2) 0; count = getD t (k * 2 + 1) 0 }
 
 pub from-row : (n : ℕ) (t : List ℕ) (k : ℕ) → k < n → drop k (rowsOf countRow n t) ≡ rowAt t k ∷ drop (suc k) (rowsOf countRow n t)
 from-row n t k h =

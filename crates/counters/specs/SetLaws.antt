@@ -14,11 +14,12 @@ use borrow.Author.Tests.{le-leb, lt-leb, eqb-true, eqb-false}
 use Rattle.base.specs.Logic.{zeros}
 use Rattle.rows.specs.Table.{rowsOf, tableOf}
 use Rattle.rows.specs.TableLaws.{length-rowsOf, table-rowsOf}
-use Rattle.rows.specs.Keys.{keys, firstWord, place, putRows}
-use Rattle.rows.specs.KeyLaws.{place-le, length-keys, word-at, behind-hit, behind-end, behind-miss}
+use Rattle.rows.specs.Keys.{keys, firstWord, place}
+use Rattle.rows.specs.KeyLaws.{putRows, place-le, length-keys, word-at, behind-hit, behind-end, behind-miss}
 use Rattle.rows.specs.PutLaws.{put-more, put-inserted, put-none, put-same, put-replaced, put-less, put-removed}
 use Rattle.counters.specs.Counts.{Entry, rowOf, setCount}
 use Rattle.counters.specs.Layout.{countRow}
+use Rattle.counters.specs.CodingLaws.{count-lawful}
 use Rattle.counters.specs.Held.{InOrder}
 use Rattle.counters.specs.RowLaws.{in-order-sorted}
 
@@ -65,11 +66,11 @@ module _ (n : ℕ) (t : List ℕ) (ok : InOrder n t) (i m k : ℕ) (here : k ≡
   row = record { idx = i; count = m }
 
   set-one : 2 ≤ m → setCount i m es ≡ putRows (λ e. e .idx) i (suc i) (row ∷ []) es
-  unfolding setCount
+  unfolding setCount putRows
   set-one h = rw (one-row i m h)
 
   set-none : m < 2 → setCount i m es ≡ putRows (λ e. e .idx) i (suc i) [] es
-  unfolding setCount
+  unfolding setCount putRows
   set-none h = rw (no-row i m h)
 
   pub set-replaced : k < n → getD t (k * 2) 0 ≡ i → 2 ≤ m
@@ -78,8 +79,8 @@ module _ (n : ℕ) (t : List ℕ) (ok : InOrder n t) (i m k : ℕ) (here : k ≡
       let b = behind-row n t ok i k here h e in
       let f = ok .laid .fits in
       rw (set-one l, second-word t (k * 2) i m (omega arith) e) (
-        sym (put-same countRow (λ x. x .idx) firstWord (λ u. refl) n t (ok .laid) (in-order-sorted n t ok) i (suc i) k here b row),
-        put-replaced countRow (λ x. x .idx) firstWord (λ u. refl) n t (ok .laid) (in-order-sorted n t ok) i (suc i) k here b row,
+        sym (put-same count-lawful (λ x. x .idx) firstWord (λ u. refl) n t (ok .laid) (in-order-sorted n t ok) i (suc i) k here b row),
+        put-replaced count-lawful (λ x. x .idx) firstWord (λ u. refl) n t (ok .laid) (in-order-sorted n t ok) i (suc i) k here b row,
       )
 
   pub set-removed : k < n → getD t (k * 2) 0 ≡ i → m < 2
@@ -88,33 +89,33 @@ module _ (n : ℕ) (t : List ℕ) (ok : InOrder n t) (i m k : ℕ) (here : k ≡
   set-removed h e l =
       let b = behind-row n t ok i k here h e in
       rw (set-none l) (
-        sym (put-less countRow (λ x. x .idx) firstWord (λ u. refl) n t (ok .laid) (in-order-sorted n t ok) i (suc i) k here b),
-        put-removed countRow (λ x. x .idx) firstWord (λ u. refl) n t (ok .laid) (in-order-sorted n t ok) i (suc i) k here b,
+        sym (put-less count-lawful (λ x. x .idx) firstWord (λ u. refl) n t (ok .laid) (in-order-sorted n t ok) i (suc i) k here b),
+        put-removed count-lawful (λ x. x .idx) firstWord (λ u. refl) n t (ok .laid) (in-order-sorted n t ok) i (suc i) k here b,
       )
 
   module _ (behind : k ≡ place (suc i) (keys firstWord 2 n t)) where
     pub room-more : 2 ≤ m → length (setCount i m es) * 2 ≤ length t → n * 2 + 2 ≤ length t
     room-more l r =
-        omega (arith, ap length (set-one l), put-more countRow (λ x. x .idx) firstWord (λ u. refl) n t (ok .laid) (in-order-sorted n t ok) i (suc i) k here behind row)
+        omega (arith, ap length (set-one l), put-more count-lawful (λ x. x .idx) firstWord (λ u. refl) n t (ok .laid) (in-order-sorted n t ok) i (suc i) k here behind row)
 
     pub set-inserted : 2 ≤ m → length (setCount i m es) * 2 ≤ length t
         → (n + 1 ≡ length (setCount i m es))
         × (take (k * 2) t ++ ((i ∷ m ∷ []) ++ (take (n * 2 - k * 2) (drop (k * 2) t) ++ drop (n * 2 + 2) t)) ≡ tableOf countRow (length t) (setCount i m es))
     set-inserted l r =
         rw (set-one l) (
-          sym (put-more countRow (λ x. x .idx) firstWord (λ u. refl) n t (ok .laid) (in-order-sorted n t ok) i (suc i) k here behind row),
-          put-inserted countRow (λ x. x .idx) firstWord (λ u. refl) n t (ok .laid) (in-order-sorted n t ok) i (suc i) k here behind row (room-more l r),
+          sym (put-more count-lawful (λ x. x .idx) firstWord (λ u. refl) n t (ok .laid) (in-order-sorted n t ok) i (suc i) k here behind row),
+          put-inserted count-lawful (λ x. x .idx) firstWord (λ u. refl) n t (ok .laid) (in-order-sorted n t ok) i (suc i) k here behind row (room-more l r),
         )
 
     pub set-kept : m < 2 → (n ≡ length (setCount i m es)) × (t ≡ tableOf countRow (length t) (setCount i m es))
     set-kept l =
-        let e : setCount i m es ≡ es = set-none l ∙ put-none countRow (λ x. x .idx) firstWord (λ u. refl) n t (ok .laid) (in-order-sorted n t ok) i (suc i) k here behind in
-        rw e (sym (length-rowsOf countRow n t), sym (table-rowsOf countRow n t (ok .laid)))
+        let e : setCount i m es ≡ es = set-none l ∙ put-none count-lawful (λ x. x .idx) firstWord (λ u. refl) n t (ok .laid) (in-order-sorted n t ok) i (suc i) k here behind in
+        rw e (sym (length-rowsOf countRow n t), sym (table-rowsOf count-lawful n t (ok .laid)))
 
   -- a row that comes makes no fewer rows, and a row that goes no more
   more : 2 ≤ m → k ≡ place (suc i) (keys firstWord 2 n t) → n ≤ length (setCount i m es)
   more l b =
-      omega (arith, ap length (set-one l), put-more countRow (λ x. x .idx) firstWord (λ u. refl) n t (ok .laid) (in-order-sorted n t ok) i (suc i) k here b row)
+      omega (arith, ap length (set-one l), put-more count-lawful (λ x. x .idx) firstWord (λ u. refl) n t (ok .laid) (in-order-sorted n t ok) i (suc i) k here b row)
 
   grows-at : 2 ≤ m → k < n → (b : Bool) → eqb (getD t (k * 2) 0) i ≡ b → n ≤ length (setCount i m es)
   grows-at l h true e = omega (arith, set-replaced h (eqb-true (getD t (k * 2) 0) i e) l .0)

@@ -1,24 +1,22 @@
 -- The transitions of lent words as a loop meets them, one after the other.
 -- Assumes nothing.
-use mathlib.Core.Path.{_≡_, refl, sym, ap, _∙_}
+use mathlib.Core.Path.{_≡_, refl, ap, _∙_}
 use mathlib.Core.Bool.{Bool, true, false, not, _&&_, _||_, false≢true}
-use mathlib.Core.List.{List, [], _∷_, map}
+use mathlib.Core.List.{List, [], _∷_}
 use Prim.Native.Nat.{ℕ, suc, _+_, _-_, _*_, _/_, _^_, _≤_, _<_}
 use native.Mathlib.Omega.{arith}
-use lib.Dec.{leb, ltb, eqb}
-use borrow.Author.Tests.{le-leb, lt-leb, le-ltb, lt-ltb, eq-eqb, ne-eqb}
-use lib.ListN.{length, drop, getD}
+use lib.Dec.{ltb, eqb}
+use borrow.Author.Tests.{le-ltb, lt-ltb, eq-eqb, ne-eqb}
+use lib.ListN.{length, drop}
 use lib.Seq.{getD-drop, drop-length}
 use Rattle.base.specs.Logic.{pick, any, elem, keep, repeated, max64}
 use Rattle.base.specs.ListLaws.{length-keep}
 use Rattle.rows.specs.TableLaws.{length-rowsOf, drop-row, rows-fit}
 use Rattle.counters.specs.declared.CounterTransition.{CounterTransition}
 use Rattle.counters.specs.Layout.{transitionRow}
-use Rattle.counters.specs.declared.Kind.{Kind}
-use Rattle.counters.specs.declared.Kind.the-variants.{Birth, Death, Rise, Fall, Clear}
-use Rattle.counters.specs.Counts.{Entry, storedAt, inSet}
+use Rattle.counters.specs.Counts.{Entry, storedAt}
 use Rattle.counters.specs.Batch.{changes, kept, named, falseOld}
-use Rattle.counters.specs.Steps.{transition, transitionAt, transitions, ofKind}
+use Rattle.counters.specs.Steps.{transition, transitionAt, transitions}
 
 -- the words of transition i lie in the batch
 pub in-batch : (ws : List ℕ) (i : ℕ) → i < length ws / 3 → i * 3 + 3 ≤ length ws
@@ -115,32 +113,6 @@ module _ (es : List Entry) (i old new : ℕ) where
   pub false-old-stored : (n : ℕ) → n ≡ storedAt i es → (n ≡ 0 → ⊥) → not (eqb old n) ≡ falseOld es (transition i old new)
   unfolding falseOld
   false-old-stored n e h = rw (← e, ne-eqb n 0 h)
-
--- ---- the kinds of transitions
-module _ (kind : Kind) (i old new : ℕ) where
-  pub kind-birth : kind ≡ Birth → eqb old 0 ≡ ofKind kind (transition i old new)
-  kind-birth e = rw e
-
-  pub kind-death : kind ≡ Death → eqb new 0 ≡ ofKind kind (transition i old new)
-  kind-death e = rw e
-
-  pub kind-no-rise : kind ≡ Rise → 1 < old → false ≡ ofKind kind (transition i old new)
-  kind-no-rise e h = rw (e, lt-leb old 1 h)
-
-  pub kind-rise : kind ≡ Rise → old ≤ 1 → leb 2 new ≡ ofKind kind (transition i old new)
-  kind-rise e h = rw (e, le-leb old 1 h)
-
-  pub kind-no-fall : kind ≡ Fall → old < 2 → false ≡ ofKind kind (transition i old new)
-  kind-no-fall e h = rw (e, lt-leb 2 old h)
-
-  pub kind-fall : kind ≡ Fall → 2 ≤ old → leb new 1 ≡ ofKind kind (transition i old new)
-  kind-fall e h = rw (e, le-leb 2 old h)
-
-  pub kind-no-clear : (k : ℕ) → kind ≡ Clear k → inSet k old ≡ false → false ≡ ofKind kind (transition i old new)
-  kind-no-clear k e h = rw (e, h)
-
-  pub kind-clear : (k : ℕ) → kind ≡ Clear k → inSet k old ≡ true → not (inSet k new) ≡ ofKind kind (transition i old new)
-  kind-clear k e h = rw (e, h)
 
 -- a test counts as 1 or 0
 pub count-one : (b : Bool) → pick {A = ℕ} b 1 0 ≤ 1

@@ -17,6 +17,7 @@ use Rattle.counters.specs.declared.CounterTransition.{CounterTransition}
 use Rattle.counters.specs.Batch.{applyBatch}
 use Rattle.counters.specs.Calls.{Changed, onState, laidOut, effect, batchCall}
 use Rattle.counters.specs.Layout.{transitionRow, roomOf, wordsOf, batchOf}
+use Rattle.counters.specs.CodingLaws.{transition-lawful}
 use Rattle.counters.specs.Steps.{transitions}
 
 -- lent words that aren't ragged are spelled by their transitions: every batch of words is one of records
@@ -24,12 +25,12 @@ pub words-spelled : (ws : List ℕ) → length ws % 3 ≡ 0 → wordsOf (transit
 unfolding wordsOf
 words-spelled ws h =
     let e : length ws / 3 * 3 ≡ length ws = omega (arith, h) in
-    words-rowsOf transitionRow (length ws / 3) ws (omega (arith, e)) ∙ ap (λ (n : ℕ). take n ws) e ∙ take-length ws
+    words-rowsOf transition-lawful (length ws / 3) ws (omega (arith, e)) ∙ ap (λ (n : ℕ). take n ws) e ∙ take-length ws
 
 module _ (ts : List CounterTransition) where
   pub length-wordsOf : length (wordsOf ts) ≡ length ts * 3
   unfolding wordsOf
-  length-wordsOf = length-words transitionRow ts
+  length-wordsOf = length-words transition-lawful ts
 
   pub words-whole : length (wordsOf ts) % 3 ≡ 0
   words-whole = omega (arith, length-wordsOf)
@@ -37,9 +38,9 @@ module _ (ts : List CounterTransition) where
   pub words-transitions : transitions (wordsOf ts) ≡ ts
   unfolding wordsOf
   words-transitions =
-      let e : length (flat (transitionRow .enc) ts) / 3 ≡ length ts = omega (arith, length-words transitionRow ts) in
+      let e : length (flat (transitionRow .enc) ts) / 3 ≡ length ts = omega (arith, length-words transition-lawful ts) in
       ap (λ (n : ℕ). rowsOf transitionRow n (flat (transitionRow .enc) ts)) e
-      ∙ ap (rowsOf transitionRow (length ts)) (sym (append-nil (flat (transitionRow .enc) ts))) ∙ rowsOf-words transitionRow ts []
+      ∙ ap (rowsOf transitionRow (length ts)) (sym (append-nil (flat (transitionRow .enc) ts))) ∙ rowsOf-words transition-lawful ts []
 
   -- records and their words are one batch
   pub words-batch : batchOf (wordsOf ts) ≡ some ts

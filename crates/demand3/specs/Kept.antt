@@ -15,6 +15,7 @@ use Rattle.base.specs.Laws.{and-left, and-right}
 use Rattle.base.specs.ListLaws.{all-keep}
 use Rattle.base.specs.SumLaws.{all-one}
 use Rattle.rows.specs.RowLaws.{all-put}
+use Rattle.rows.specs.KeyLaws.{putRows}
 use Rattle.counters.specs.Counts as counts
 use Rattle.counters.specs.Counts.{fresh}
 use Rattle.counters.specs.Maintenance.{standard}
@@ -40,7 +41,7 @@ abbrev ByteCells : List Entry → Type 0
 ByteCells es = all (λ e. all (λ b. ltb b 256) (e .cell)) es ≡ true
 
 bytes-inserts : (es : List Entry) (s : State) → ByteCells es → ByteCells (s .entries) → ByteCells (fold insert es s .entries)
-unfolding fold all insert putEntry
+unfolding fold all insert putEntry putRows
 bytes-inserts [] s a b = b
 bytes-inserts (e ∷ es) s a b =
     let here = and-left (all (λ x. ltb x 256) (e .cell)) _ a in

@@ -8,7 +8,7 @@ use mathlib.Core.Path.{_≡_, refl, ap, _∙_}
 use Prim.Native.Nat.{ℕ, _-_, _^_, _<_, zero-le, suc-le-suc}
 use native.Mathlib.Omega.{arith}
 use mathlib.Core.Bool.{true, false}
-use mathlib.Core.Option.{Option, none as nothing, some}
+use mathlib.Core.Option.{Option, none, some}
 use mathlib.Core.List.{List, [], _∷_, _++_, append-assoc}
 use lib.ListN.{length, take, drop, replicate, drop-of-length-le}
 use lib.Seq.{take-all}
@@ -48,8 +48,8 @@ abbrev decodedOf : List ℕ → ℕ
 decodedOf p = decoded (recordOf p)
 
 -- the record with neither insert nor remove, of the id 5
-abbrev none : List ℕ
-none = recordOf (payload 5 0 0 [])
+abbrev noItems : List ℕ
+noItems = recordOf (payload 5 0 0 [])
 
 -- encoding the delta of lent counts and items, with the id 5
 abbrev encodedTo : List ℕ → ℕ → ℕ → List ℕ → EncodedOut
@@ -87,17 +87,17 @@ pub record RefusalBounds : Type 0 where
   -- 16: 39 bytes, and 40 bytes of a length of 1
   under-40 : decoded (zeros 39) ≡ 16
   -- 16: 55 of 56 bytes, all of them, and a byte behind the record
-  cut : decoded (take 55 none) ≡ 16
-  whole : decoded none ≡ 0
-  followed : decoded (none ++ 9 ∷ []) ≡ 0
+  cut : decoded (take 55 noItems) ≡ 16
+  whole : decoded noItems ≡ 0
+  followed : decoded (noItems ++ 9 ∷ []) ≡ 0
   -- 17: 2 ^ 64 - 8, and one less
   far : decoded (zeros 32 ++ le64 (2 ^ 64 - 8)) ≡ 17
   not-far : decoded (zeros 32 ++ le64 (2 ^ 64 - 9)) ≡ 16
   -- 18: another first byte or last byte of the hash, another length, another id
-  first-byte : decoded (9 ∷ drop 1 none) ≡ 18
-  last-byte : decoded (take 31 none ++ 9 ∷ drop 32 none) ≡ 18
-  other-length : decoded (take 32 none ++ 17 ∷ drop 33 none ++ 0 ∷ []) ≡ 18
-  other-id : decoded (take 40 none ++ 6 ∷ drop 41 none) ≡ 18
+  first-byte : decoded (9 ∷ drop 1 noItems) ≡ 18
+  last-byte : decoded (take 31 noItems ++ 9 ∷ drop 32 noItems) ≡ 18
+  other-length : decoded (take 32 noItems ++ 17 ∷ drop 33 noItems ++ 0 ∷ []) ≡ 18
+  other-id : decoded (take 40 noItems ++ 6 ∷ drop 41 noItems) ≡ 18
   -- 19: a stated length of 15, of 16, and of 17 with a byte that is ignored
   stated-15 : decodedOf (zeros 15) ≡ 19
   stated-16 : decodedOf (zeros 16) ≡ 0
@@ -117,7 +117,7 @@ pub record RefusalBounds : Type 0 where
   output-short : encodedTo (replicate 55 9) 0 0 []
       ≡ record { result = record { answer = Refused OutputFull; len = 0; stats = stats 0 0 0 0 0 }; out = replicate 55 9 }
   output-long : encodedTo (replicate 57 9) 0 0 []
-      ≡ record { result = record { answer = Taken; len = 56; stats = stats 16 16 0 0 0 }; out = none ++ 9 ∷ [] }
+      ≡ record { result = record { answer = Taken; len = 56; stats = stats 16 16 0 0 0 }; out = noItems ++ 9 ∷ [] }
   -- 20: items that run past their bytes; bytes after the last item are ignored
   items-short : answerNumber (encodedTo [] 0 1 (zeros 31) .result .answer) ≡ 20
   items-long : answerNumber (encodedTo (zeros 88) 0 1 (zeros 33) .result .answer) ≡ 0
@@ -168,7 +168,7 @@ one-read : (c : List ℕ) → length c < 2 ^ 32 → deltaOf 4 1 0 (wideInsert c)
 unfolding deltaOf readList
 one-read c k = rw (insert-read c k)
 
-two-read : (c : List ℕ) → length c < 2 ^ 32 → deltaOf 4 2 0 (wideInsert c) ≡ nothing
+two-read : (c : List ℕ) → length c < 2 ^ 32 → deltaOf 4 2 0 (wideInsert c) ≡ none
 unfolding deltaOf readList readInsert readHash cut
 two-read c k = rw (insert-read c k)
 

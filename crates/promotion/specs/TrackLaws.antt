@@ -12,12 +12,13 @@ use borrow.Author.Tests.{lt-ltb, le-ltb, le-leb, lt-leb, eq-eqb, ne-eqb, eqb-tru
 use Rattle.base.specs.Logic.{pick, any, elem, fold, flat, keep, repeated, ascending}
 use Rattle.base.specs.ListLaws.{or-false, fails-not, Among, here, there, some-one, some-weaker, elem-some, none-passes}
 use Rattle.base.specs.ListLaws.{keep-append, keep-swap, keep-narrow}
-use Rattle.rows.specs.Keys.{putRows}
+use Rattle.rows.specs.KeyLaws.{putRows}
 use Rattle.cell_nursery.specs.Entries.{Entry, Waiting, State, tied, putWaiting, insert, remove}
 use Rattle.cell_nursery.specs.Items.{Delta}
 use Rattle.cell_nursery.specs.Delta.{present, stateAfter}
 use Rattle.cell_nursery.specs.Drain.{due, named, promoted, drained}
 use Rattle.cell_nursery.specs.DrainLaws.{named-entryAt, named-rows}
+use Rattle.cell_nursery.specs.PutLaws.{putWaiting-rows}
 use Rattle.cell_nursery.specs.EntryLaws.{entryAt, elem-entryAt, entryAt-put, entryAt-removed}
 use Rattle.cell_nursery.specs.WaitLaws.{waiterFor, tied-absent}
 use Rattle.promotion.specs.Promotion.{withHash}
@@ -49,12 +50,13 @@ at-most-one lo false w =
 -- the rows of a hash after a row is put
 rows-put : (h : ℕ) (w : Waiting) (ws : List Waiting)
     → rowsAt h (putWaiting w ws) ≡ keep (λ x. ltb (x .born) (suc (w .born))) (rowsAt h ws) ++ (rowsAt h (w ∷ []) ++ keep (λ x. leb (suc (w .born)) (x .born)) (rowsAt h ws))
-unfolding putWaiting putRows
+unfolding putRows
 rows-put h w ws =
     let q : Waiting → Bool = λ x. eqb (x .hash) h in
     let low : Waiting → Bool = λ x. ltb (x .born) (suc (w .born)) in
     let high : Waiting → Bool = λ x. leb (suc (w .born)) (x .born) in
-    rw (keep-append q (keep low ws) ((w ∷ []) ++ keep high ws), keep-append q (w ∷ []) (keep high ws), keep-swap q low ws, keep-swap q high ws)
+    ap (keep q) (putWaiting-rows w ws)
+    ∙ rw (keep-append q (keep low ws) ((w ∷ []) ++ keep high ws), keep-append q (w ∷ []) (keep high ws), keep-swap q low ws, keep-swap q high ws)
 
 module _ (e : Entry) (out : Bool) (s : State) (t : Tracked e out s) where
   track-insert : (i : Entry) → (e .hash ≡ i .hash → ⊥) → Tracked e out (insert i s)

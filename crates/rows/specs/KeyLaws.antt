@@ -1,21 +1,20 @@
 -- Laws of the place of a key among keys in order, and of rows put there.
 -- Assumes nothing.
-use mathlib.Core.Path.{_≡_, refl, sym, ap, _∙_}
+use mathlib.Core.Path.{_≡_, refl, ap, _∙_}
 use mathlib.Core.Bool.{true, false}
 use mathlib.Core.List.{List, [], _∷_, _++_, map}
-use Prim.Native.Nat.{ℕ, zero, suc, _+_, _*_, _-_, _≤_, _<_, zero-le, suc-le-suc}
+use Prim.Native.Nat.{ℕ, zero, suc, _+_, _*_, _≤_, _<_, zero-le, suc-le-suc}
 use native.Mathlib.Nat.{suc-mul, zero-mul}
 use native.Mathlib.Omega.{arith}
 use native.Mathlib.Decide.{decLe}
 use lib.Dec.{leb, ltb}
-use borrow.Author.Tests.{le-ltb, lt-ltb, le-leb, lt-leb, leb-true}
-use lib.ListN.{length, take, drop, getD, length-append, length-drop, length-map}
-use lib.Seq.{drop-drop, getD-drop, length-take-le}
-use Rattle.base.specs.Logic.{pick, keep, ascendingFrom, sortedFrom}
-use Rattle.base.specs.Laws.{and-left, and-right, and-both, sorted-head, sorted-tail, ascending-head, ascending-tail}
+use borrow.Author.Tests.{le-ltb, lt-ltb, le-leb, lt-leb}
+use lib.ListN.{length, take, drop, getD}
+use lib.Seq.{drop-drop, getD-drop}
+use Rattle.base.specs.Logic.{keep, ascendingFrom, sortedFrom}
+use Rattle.base.specs.Laws.{sorted-head, sorted-tail, ascending-head, ascending-tail}
 use Rattle.rows.specs.Table.{Coding, rowsOf}
-use Rattle.rows.specs.TableLaws.{length-rowsOf}
-use Rattle.rows.specs.Keys.{keys, firstWord, place, putRows}
+use Rattle.rows.specs.Keys.{keys, firstWord, place}
 
 -- ---- the place
 pub place-lt : (i k : ℕ) (ks : List ℕ) → k < i → place i (k ∷ ks) ≡ suc (place i ks)
@@ -165,6 +164,10 @@ keys-rowsOf c key word same zero t = refl
 keys-rowsOf c key word same (suc n) t = rw (same t, keys-rowsOf c key word same n (drop (c .width) t))
 
 -- ---- rows put in their place
+-- other rows between those with keys below lo and those with keys from hi on: what the laws speak of, for any key
+unfoldable pub putRows : {E : Type 0} → (E → ℕ) → ℕ → ℕ → List E → List E → List E
+putRows key lo hi new es = keep (λ e. ltb (key e) lo) es ++ (new ++ keep (λ e. leb hi (key e)) es)
+
 module _ {E : Type 0} (key : E → ℕ) where
   keep-none-below : (i lo : ℕ) (es : List E) → sortedFrom lo (map key es) ≡ true → i ≤ lo → keep (λ e. ltb (key e) i) es ≡ []
   unfolding keep

@@ -1,10 +1,10 @@
--- The keys of a table's rows, the place of a key among them, and a row put in its place.
+-- The keys of a table's rows, and the place of a key among them.
 -- Assumes nothing.
 use Prim.Native.Nat.{ℕ, zero, suc, _^_}
-use mathlib.Core.List.{List, [], _∷_, _++_}
+use mathlib.Core.List.{List, [], _∷_}
 use lib.ListN.{getD, drop}
-use lib.Dec.{leb, ltb}
-use Rattle.base.specs.Logic.{pick, keep}
+use lib.Dec.{ltb}
+use Rattle.base.specs.Logic.{pick}
 use Rattle.base.specs.Bytes.{number}
 
 -- the key of a row of words: its first word, or its first four as one number, the highest word first
@@ -23,7 +23,3 @@ keys key w (suc n) t = key t ∷ keys key w n (drop w t)
 unfoldable pub place : ℕ → List ℕ → ℕ
 place i [] = 0
 place i (k ∷ ks) = pick (ltb k i) (suc (place i ks)) 0
-
--- other rows put between the rows whose keys are below lo and those whose keys are at least hi
-unfoldable pub putRows : {E : Type 0} → (E → ℕ) → ℕ → ℕ → List E → List E → List E
-putRows key lo hi new es = keep (λ e. ltb (key e) lo) es ++ (new ++ keep (λ e. leb hi (key e)) es)

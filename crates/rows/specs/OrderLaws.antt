@@ -9,8 +9,8 @@ use lib.Dec.{leb, ltb}
 use borrow.Author.Tests.{le-ltb, lt-ltb, le-leb, lt-leb, leb-true, ltb-true}
 use Rattle.base.specs.Logic.{all, keep, ascendingFrom}
 use Rattle.base.specs.Laws.{and-left, and-right}
-use Rattle.base.specs.ListLaws.{all-append, all-weaker, all-keep, all-kept, keep-append, keep-whole, keep-empty, keep-swap, keep-narrow, ascending-append, ascending-keep, ascending-from}
-use Rattle.rows.specs.Keys.{putRows}
+use Rattle.base.specs.ListLaws.{all-weaker, all-kept, keep-append, keep-whole, keep-empty, keep-swap, keep-narrow, ascending-append, ascending-keep, ascending-from}
+use Rattle.rows.specs.KeyLaws.{putRows}
 
 -- ---- the tests of a key k against two bounds
 module _ (k i j : ℕ) (h : i ≤ j) where
@@ -37,13 +37,6 @@ module _ {E : Type 0} (key : E → ℕ) where
 
   abbrev from : ℕ → List E → List E
   from i es = keep (λ e. leb i (key e)) es
-
-  -- what passes for the rows there and the rows put passes for all
-  pub putRows-all : (p : E → Bool) (lo hi : ℕ) (new es : List E) → all p new ≡ true → all p es ≡ true → all p (putRows key lo hi new es) ≡ true
-  unfolding putRows
-  putRows-all p lo hi new es a b =
-      all-append p (below lo es) (new ++ from hi es) (all-keep p (λ e. ltb (key e) lo) es b)
-      (all-append p new (from hi es) a (all-keep p (λ e. leb hi (key e)) es b))
 
   module _ (lo hi : ℕ) (new es : List E) (order : lo ≤ hi) (fit : within lo hi new ≡ true) where
     reaches : (e : E) → (leb lo (key e) && ltb (key e) hi) ≡ true → leb lo (key e) ≡ true

@@ -1,19 +1,19 @@
 -- A table in key order into which a row is put, or from which one goes: its words, and the number of its rows.
 -- Assumes nothing.
-use mathlib.Core.Path.{_≡_, refl, sym, ap, _∙_}
+use mathlib.Core.Path.{_≡_, ap, _∙_}
 use mathlib.Core.Bool.{true}
-use mathlib.Core.List.{List, [], _∷_, _++_, map}
+use mathlib.Core.List.{List, [], _∷_, _++_}
 use Prim.Native.Nat.{ℕ, suc, _+_, _*_, _-_, _≤_, _<_}
 use native.Mathlib.Omega.{arith}
 use lib.ListN.{length, take, drop, length-append, length-drop, take-append-drop}
 use lib.Seq.{length-take-le}
 use Rattle.base.specs.Logic.{zeros, sortedFrom}
 use Rattle.rows.specs.Table.{Coding, rowsOf, tableOf, Laid}
-use Rattle.rows.specs.TableLaws.{length-rowsOf, inserted, removed, replaced}
-use Rattle.rows.specs.Keys.{keys, place, putRows}
-use Rattle.rows.specs.KeyLaws.{place-le, length-keys, keys-rowsOf, putRows-places}
+use Rattle.rows.specs.TableLaws.{Lawful, length-rowsOf, inserted, removed, replaced}
+use Rattle.rows.specs.Keys.{keys, place}
+use Rattle.rows.specs.KeyLaws.{putRows, place-le, length-keys, keys-rowsOf, putRows-places}
 
-module _ {E : Type 0} (c : Coding E) (key : E → ℕ) (word : List ℕ → ℕ) (same : (t : List ℕ) → key (c .dec t) ≡ word t)
+module _ {E : Type 0} {c : Coding E} (law : Lawful c) (key : E → ℕ) (word : List ℕ → ℕ) (same : (t : List ℕ) → key (c .dec t) ≡ word t)
     (n : ℕ) (t : List ℕ) (laid : Laid (c .width) n t) (sorted : sortedFrom 0 (keys word (c .width) n t) ≡ true) (lo hi : ℕ) where
   -- what stands between the places k and j gives way to other rows
   put-places : (k j : ℕ) (new : List E) → k ≡ place lo (keys word (c .width) n t) → j ≡ place hi (keys word (c .width) n t)
@@ -37,7 +37,7 @@ module _ {E : Type 0} (c : Coding E) (key : E → ℕ) (word : List ℕ → ℕ)
     pub put-inserted : (e : E) → n * c .width + c .width ≤ length t
         → take (k * c .width) t ++ (c .enc e ++ (take (n * c .width - k * c .width) (drop (k * c .width) t) ++ drop (n * c .width + c .width) t))
         ≡ tableOf c (length t) (putRows key lo hi (e ∷ []) (rowsOf c n t))
-    put-inserted e room = rw (put-places k k (e ∷ []) a b) (inserted c n t laid k e (place-fits lo k a) room)
+    put-inserted e room = rw (put-places k k (e ∷ []) a b) (inserted law n t laid k e (place-fits lo k a) room)
 
     -- and no row goes in
     pub put-none : putRows key lo hi [] (rowsOf c n t) ≡ rowsOf c n t
@@ -53,11 +53,11 @@ module _ {E : Type 0} (c : Coding E) (key : E → ℕ) (word : List ℕ → ℕ)
 
     pub put-replaced : (e : E)
         → take (k * c .width) t ++ (c .enc e ++ drop (k * c .width + c .width) t) ≡ tableOf c (length t) (putRows key lo hi (e ∷ []) (rowsOf c n t))
-    put-replaced e = rw (put-places k (suc k) (e ∷ []) a b) (replaced c n t laid k e hit-fits)
+    put-replaced e = rw (put-places k (suc k) (e ∷ []) a b) (replaced law n t laid k e hit-fits)
 
     pub put-less : length (putRows key lo hi [] (rowsOf c n t)) ≡ n - 1
     put-less = ap length (put-places k (suc k) [] a b) ∙ size k (suc k) [] (place-fits lo k a) ∙ omega (arith, hit-fits)
 
     pub put-removed : take (k * c .width) t ++ (take (n * c .width - (k * c .width + c .width)) (drop (k * c .width + c .width) t) ++ (zeros (c .width) ++ drop (n * c .width) t))
         ≡ tableOf c (length t) (putRows key lo hi [] (rowsOf c n t))
-    put-removed = rw (put-places k (suc k) [] a b) (removed c n t laid k hit-fits)
+    put-removed = rw (put-places k (suc k) [] a b) (removed law n t laid k hit-fits)

@@ -4,20 +4,20 @@ use mathlib.Core.Path.{_≡_, refl, sym, ap, _∙_}
 use mathlib.Core.Bool.{Bool, true, false, not, or-true}
 use mathlib.Core.List.{List, [], _∷_, _++_, map, map-append}
 use Prim.Native.Nat.{ℕ, zero, suc, _+_, _*_, _≤_, _<_}
-use native.Mathlib.Nat.{suc-mul}
 use native.Mathlib.Omega.{arith}
 use native.Mathlib.Decide.{decLe}
-use lib.ListN.{length, take, drop, getD, length-drop, length-map}
+use lib.ListN.{length, take, drop, getD, length-map}
 use lib.Dec.{leb, ltb, eqb}
 use borrow.Author.Tests.{lt-ltb, le-ltb, le-leb, lt-leb, eq-eqb, ne-eqb, eqb-false, ltb-true}
 use Rattle.base.specs.Logic.{all, any, elem, keep, sumOf, ascendingFrom, sortedFrom}
-use Rattle.base.specs.Laws.{sorted-head, sorted-tail, ascending-tail, ascending-sorted}
+use Rattle.base.specs.Laws.{sorted-head, sorted-tail, ascending-sorted}
 use Rattle.rows.specs.Table.{Coding, rowsOf, tableOf, holdsRows}
-use Rattle.rows.specs.TableLaws.{rowsOf-table, laid-table, laid-holds, length-table}
-use Rattle.rows.specs.Keys.{keys, place, putRows}
-use Rattle.rows.specs.KeyLaws.{place-lt, place-ge, behind-hit, putRows-places}
-use Rattle.base.specs.ListLaws.{all-append, all-weaker, all-keep, all-kept, ascending-keep}
-use Rattle.base.specs.SumLaws.{or-left, or-right, all-map, sum-append, length-sum, ascending-append, sorted-append, keep-map, keep-sorted}
+use Rattle.rows.specs.TableLaws.{Lawful, rowsOf-table, laid-table, laid-holds, length-table}
+use Rattle.rows.specs.Keys.{place}
+use Rattle.rows.specs.OrderLaws.{putRows-ascending}
+use Rattle.rows.specs.KeyLaws.{putRows, place-lt, place-ge, behind-hit, putRows-places}
+use Rattle.base.specs.ListLaws.{all-append, all-weaker, all-keep, all-kept}
+use Rattle.base.specs.SumLaws.{or-left, or-right, all-map, sum-append, length-sum, sorted-append, keep-map, keep-sorted}
 
 -- the canonical table of n rows: it spells them, holds them, and has its length
 pub record IsTable {E : Type 0} (c : Coding E) (n len : ℕ) (es : List E) (t : List ℕ) : Type 0 where
@@ -25,13 +25,13 @@ pub record IsTable {E : Type 0} (c : Coding E) (n len : ℕ) (es : List E) (t : 
   pub holds : holdsRows (c .width) n t ≡ true
   pub size : length t ≡ len
 
-pub is-table : {E : Type 0} (c : Coding E) (n len : ℕ) (es : List E) → length es ≡ n → n * c .width ≤ len → IsTable c n len es (tableOf c len es)
-is-table c n len es e h =
+pub is-table : {E : Type 0} {c : Coding E} → Lawful c → (n len : ℕ) (es : List E) → length es ≡ n → n * c .width ≤ len → IsTable c n len es (tableOf c len es)
+is-table {c} law n len es e h =
     let fits : length es * c .width ≤ len = rw e h in
     record {
-      spells = rw e at (rowsOf-table c len es);
-      holds = rw e at (laid-holds (c .width) (length es) (tableOf c len es) (laid-table c len es fits));
-      size = length-table c len es fits;
+      spells = rw e at (rowsOf-table law len es);
+      holds = rw e at (laid-holds (c .width) (length es) (tableOf c len es) (laid-table law len es fits));
+      size = length-table law len es fits;
     }
 
 -- ---- a key among keys
@@ -77,16 +77,6 @@ place-absent i (x ∷ ks) e =
 -- ---- rows put in their place
 module _ {E : Type 0} (key : E → ℕ) where
   -- of rows in order, those from a key on are in order from it
-  from-ascending : (b lo : ℕ) (es : List E) → ascendingFrom lo (map key es) ≡ true → ascendingFrom b (map key (keep (λ e. leb b (key e)) es)) ≡ true
-  unfolding ascendingFrom keep
-  from-ascending b lo [] o = refl
-  from-ascending b lo (e ∷ es) o =
-      let r = ascending-tail lo (key e) (map key es) o in
-      elim (decLe b (key e)) [
-        | yes h ↦ rw (le-leb b (key e) h, le-leb b (key e) h) (ascending-keep key (λ x. leb b (key x)) (suc (key e)) es r)
-        | no h ↦ rw (lt-leb b (key e) (omega arith)) (from-ascending b (suc (key e)) es r)
-      ]
-
   from-sorted : (b lo : ℕ) (es : List E) → sortedFrom lo (map key es) ≡ true → sortedFrom b (map key (keep (λ e. leb b (key e)) es)) ≡ true
   unfolding sortedFrom keep
   from-sorted b lo [] o = refl
@@ -102,14 +92,6 @@ module _ {E : Type 0} (key : E → ℕ) where
     unfolding putRows
     put-keys = simp map-append
 
-    pub put-ascending : ascendingFrom 0 (map key es) ≡ true → ascendingFrom lo (map key new) ≡ true → all (λ x. ltb x hi) (map key new) ≡ true → lo ≤ hi
-        → ascendingFrom 0 (map key (putRows key lo hi new es)) ≡ true
-    put-ascending o p l h =
-        let under = all-map (λ x. ltb x lo) key (keep (λ e. ltb (key e) lo) es) ∙ all-kept (λ e. ltb (key e) lo) es in
-        rw put-keys
-        (ascending-append 0 lo _ _ (omega arith) (ascending-keep key (λ e. ltb (key e) lo) 0 es o) under
-        (ascending-append lo hi _ _ h p l (from-ascending hi 0 es o)))
-
     -- where new rows may stand behind those of the same key, m is their least key
     pub put-sorted : (m : ℕ) → sortedFrom 0 (map key es) ≡ true → sortedFrom m (map key new) ≡ true → all (λ x. leb x hi) (map key new) ≡ true → lo ≤ suc m → m ≤ hi
         → sortedFrom 0 (map key (putRows key lo hi new es)) ≡ true
@@ -119,6 +101,7 @@ module _ {E : Type 0} (key : E → ℕ) where
         (sorted-append 0 m _ _ (omega arith) (keep-sorted (λ e. ltb (key e) lo) key 0 es o) under
         (sorted-append m hi _ _ g p l (from-sorted hi 0 es o)))
 
+    -- what passes for the rows there and the rows put passes for all
     pub all-put : (q : E → Bool) → all q es ≡ true → all q new ≡ true → all q (putRows key lo hi new es) ≡ true
     unfolding putRows
     all-put q old fresh =
@@ -132,7 +115,8 @@ module _ {E : Type 0} (key : E → ℕ) where
   pub put-one-ascending : (e : E) (es : List E) → ascendingFrom 0 (map key es) ≡ true → ascendingFrom 0 (map key (putRows key (key e) (suc (key e)) (e ∷ []) es)) ≡ true
   unfolding ascendingFrom all
   put-one-ascending e es o =
-      put-ascending (key e) (suc (key e)) (e ∷ []) es o (rw (le-leb (key e) (key e) (omega arith))) (rw (lt-ltb (key e) (suc (key e)) (omega arith))) (omega arith)
+      let own = le-leb (key e) (key e) (omega arith) in
+      putRows-ascending key (key e) (suc (key e)) (e ∷ []) es (omega arith) (rw (own, lt-ltb (key e) (suc (key e)) (omega arith))) (rw own) o
 
   pub put-one-sorted : (e : E) (es : List E) → sortedFrom 0 (map key es) ≡ true → sortedFrom 0 (map key (putRows key (suc (key e)) (suc (key e)) (e ∷ []) es)) ≡ true
   unfolding sortedFrom all

@@ -4,18 +4,15 @@ use mathlib.Core.Path.{_≡_}
 use Prim.Native.Nat.{ℕ, zero, suc, _-_, _*_, _≤_}
 use mathlib.Core.Bool.{Bool, _&&_}
 use mathlib.Core.List.{List, [], _∷_, _++_}
-use lib.ListN.{length, take, drop}
+use lib.ListN.{length, drop}
 use lib.Dec.{leb}
 use Rattle.base.specs.Logic.{flat, zeros, allZero}
 
--- the coding of a row: its words, and the row that the first words of a list spell
+-- the coding of a row: how many words it has, which, and the row that the first words of a list spell
 pub record Coding (E : Type 0) : Type 0 where
   pub width : ℕ
   pub enc : E → List ℕ
   pub dec : List ℕ → E
-  pub wide : (e : E) → length (enc e) ≡ width
-  pub back : (e : E) (z : List ℕ) → dec (enc e ++ z) ≡ e
-  pub forth : (t : List ℕ) → width ≤ length t → enc (dec t) ≡ take width t
 
 module _ {E : Type 0} (c : Coding E) where
   -- the first n rows of a table

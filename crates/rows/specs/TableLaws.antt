@@ -1,7 +1,7 @@
 -- Laws of a table of rows of any width: its rows, cut at a place, are parts of its words.
 -- Assumes nothing.
 use mathlib.Core.Path.{_≡_, refl, sym, ap, _∙_}
-use mathlib.Core.Bool.{true, false, _&&_}
+use mathlib.Core.Bool.{true, false}
 use mathlib.Core.List.{List, [], _∷_, _++_, map, append-assoc, append-nil}
 use Prim.Native.Nat.{ℕ, zero, suc, _+_, _*_, _-_, _/_, _≤_, _<_}
 use native.Mathlib.Nat.{div-lt-iff-lt-mul, suc-mul, zero-mul, add-mul, mul-le-mul-right, sub-zero}
@@ -68,13 +68,14 @@ zeros-from w n t l m h =
     ap (λ (k : ℕ). drop k t) (sym q₁) ∙ sym (drop-drop (m - e) e t) ∙ ap (λ (x : List ℕ). drop (m - e) x) (l .rest)
     ∙ drop-zeros (m - e) (length t - e) ∙ ap (λ (k : ℕ). zeros k) q₂
 
-module _ {E : Type 0} (c : Coding E) where
-  -- ---- the rows of a table and the words of rows
-  pub length-words : (es : List E) → length (flat (c .enc) es) ≡ length es * c .width
-  unfolding flat
-  length-words [] = sym (zero-mul (c .width))
-  length-words (e ∷ es) = simp (length-append, suc-mul) (omega (arith, c .wide e, length-words es))
+-- a coding is lawful: a row has as many words as it says, and a row and its words give each other back
+pub record Lawful {E : Type 0} (c : Coding E) : Type 0 where
+  pub wide : (e : E) → length (c .enc e) ≡ c .width
+  pub back : (e : E) (z : List ℕ) → c .dec (c .enc e ++ z) ≡ e
+  pub forth : (t : List ℕ) → c .width ≤ length t → c .enc (c .dec t) ≡ take (c .width) t
 
+-- ---- the rows of a table
+module _ {E : Type 0} (c : Coding E) where
   pub length-rowsOf : (n : ℕ) (t : List ℕ) → length (rowsOf c n t) ≡ n
   unfolding rowsOf
   length-rowsOf zero t = refl
@@ -109,6 +110,13 @@ module _ {E : Type 0} (c : Coding E) where
   drop-row n t k h =
       drop-cons (rowsOf c n t) k (c .dec t) (rw (length-rowsOf n t) h) ∙ ap (λ (e : E). e ∷ drop (suc k) (rowsOf c n t)) (row-at n t k (c .dec t) h)
 
+-- ---- the rows of a table and the words of rows
+module _ {E : Type 0} {c : Coding E} (law : Lawful c) where
+  pub length-words : (es : List E) → length (flat (c .enc) es) ≡ length es * c .width
+  unfolding flat
+  length-words [] = sym (zero-mul (c .width))
+  length-words (e ∷ es) = simp (length-append, suc-mul) (omega (arith, law .wide e, length-words es))
+
   pub words-rowsOf : (n : ℕ) (t : List ℕ) → n * c .width ≤ length t → flat (c .enc) (rowsOf c n t) ≡ take (n * c .width) t
   unfolding flat rowsOf
   words-rowsOf zero t h = rw (zero-mul (c .width))
@@ -116,7 +124,7 @@ module _ {E : Type 0} (c : Coding E) where
       let m = suc-mul n (c .width) in
       let q : suc n * c .width ≡ c .width + n * c .width = omega arith in
       let r : n * c .width ≤ length (drop (c .width) t) = simp length-drop (omega arith) in
-      rw (c .forth t (omega arith), words-rowsOf n (drop (c .width) t) r, q, take-add (c .width) (n * c .width) t)
+      rw (law .forth t (omega arith), words-rowsOf n (drop (c .width) t) r, q, take-add (c .width) (n * c .width) t)
 
   pub rowsOf-words : (es : List E) (z : List ℕ) → rowsOf c (length es) (flat (c .enc) es ++ z) ≡ es
   unfolding flat rowsOf
@@ -124,8 +132,8 @@ module _ {E : Type 0} (c : Coding E) where
   rowsOf-words (e ∷ es) z =
       rw (
         append-assoc (c .enc e) (flat (c .enc) es) z,
-        c .back e (flat (c .enc) es ++ z),
-        drop-at (c .enc e) (flat (c .enc) es ++ z) (c .width) (c .wide e),
+        law .back e (flat (c .enc) es ++ z),
+        drop-at (c .enc e) (flat (c .enc) es ++ z) (c .width) (law .wide e),
         rowsOf-words es z,
       )
 
@@ -151,7 +159,7 @@ module _ {E : Type 0} (c : Coding E) where
     pub table-rowsOf : tableOf c (length t) (rowsOf c n t) ≡ t
     unfolding tableOf
     table-rowsOf =
-        rw (length-rowsOf n t, words-rowsOf n t (laid .fits), ← laid .rest) (take-append-drop (n * c .width) t)
+        rw (length-rowsOf c n t, words-rowsOf n t (laid .fits), ← laid .rest) (take-append-drop (n * c .width) t)
 
     -- the table of the first k rows, other rows, and the rows from j on
     pub table-parts : (k j m r : ℕ) (new : List E) → k ≤ n → j ≤ n → j * c .width + m ≡ n * c .width → k * c .width + (length new * c .width + m) + r ≡ length t
@@ -171,14 +179,14 @@ module _ {E : Type 0} (c : Coding E) where
         rw (
           flat-append (c .enc) (take k (rowsOf c n t)) (new ++ drop j (rowsOf c n t)),
           flat-append (c .enc) new (drop j (rowsOf c n t)),
-          take-rowsOf k n t hk,
-          drop-rowsOf j n t hj,
+          take-rowsOf c k n t hk,
+          drop-rowsOf c j n t hj,
           words-rowsOf k t h₁,
           words-rowsOf p (drop (j * w) t) h₃,
           q,
         ) in
         let l : length (take k (rowsOf c n t) ++ (new ++ drop j (rowsOf c n t))) * w ≡ k * w + (length new * w + m) =
-        simp (length-append, length-take-le k (rowsOf c n t) (rw (length-rowsOf n t) hk), length-drop, length-rowsOf, add-mul) (omega arith) in
+        simp (length-append, length-take-le k (rowsOf c n t) (rw (length-rowsOf c n t) hk), length-drop, length-rowsOf, add-mul) (omega arith) in
         let z : length t - (k * w + (length new * w + m)) ≡ r = omega arith in
         rw (words, l, z)
         (append-assoc (take (k * w) t) (flat (c .enc) new ++ take m (drop (j * w) t)) (zeros r)

@@ -7,7 +7,7 @@ use snapshot_lanes::sets::sets_end;
 use snapshot_tiers::large::any_low;
 ghost use mathlib.Core.Path.{_≡_};
 ghost use lib.ListN.{length};
-ghost use Rattle.snapshot_judge.specs.Decide.{Reached, Decided};
+ghost use Rattle.snapshot_judge.specs.Decide.{Reached, verdictOf};
 
 // What a snapshot holds: the next index, the live total, where the large counts start, how many these are, and how many counts
 // both tiers have.
@@ -27,7 +27,7 @@ pub enum Verdict {
 // The rest, where the eight payloads are bitmaps and end at `end`.
 fn decide_large(s: &[u8], end: usize, room: usize) -> Verdict
     requires { ⌜ Reached (now s) end ⌝ }
-    ensures { λ r. ⌜ Decided (now (s .entry)) room r ⌝ }
+    ensures { λ r. ⌜ r ≡ verdictOf room (now (s .entry)) ⌝ }
 {
     let left = s.len() - end;
     if left % 16 != 0 {
@@ -59,7 +59,7 @@ fn decide_large(s: &[u8], end: usize, room: usize) -> Verdict
 
 // The refusals in their order: 8 where there is nothing, 7, then 8 to 10 as they are met, 11, 6.
 pub fn decide(s: &[u8], room: usize) -> Verdict
-    ensures { λ r. ⌜ Decided (now (s .entry)) room r ⌝ }
+    ensures { λ r. ⌜ r ≡ verdictOf room (now (s .entry)) ⌝ }
 {
     if s.len() == 0 {
         return Verdict::Refused(Refusal::TornSnapshot);

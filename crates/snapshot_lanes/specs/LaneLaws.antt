@@ -17,8 +17,8 @@ use Rattle.roaring_cursor.specs.declared.Cursor.{Cursor}
 use Rattle.snapshot_tiers.specs.declared.Head.{Head}
 use Rattle.snapshot_lanes.specs.declared.lanes.Lane.{Lane}
 use Rattle.snapshot_tiers.specs.Payloads.{sizeOf, payloadOf, setsOf}
-use Rattle.snapshot_tiers.specs.TierLaws.{past, bitAt, codeFrom}
-use Rattle.snapshot_tiers.specs.Heads.{noHead, lowerBy, lowest}
+use Rattle.snapshot_tiers.specs.TierLaws.{bitAt, codeFrom}
+use Rattle.snapshot_tiers.specs.Heads.{past, noHead, lowerBy, lowest}
 use Rattle.snapshot_tiers.specs.JoinLaws.{Lowest, Small, lowest-of, code-most}
 use Rattle.snapshot_lanes.specs.Lanes.{partOf, laneList, Open, LaneOf, AllOpen, listsOf, lowestLane, codeLanes, smallHead}
 

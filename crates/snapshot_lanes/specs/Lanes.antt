@@ -13,8 +13,7 @@ use Rattle.roaring_cursor.specs.Cursor.{Good, membersFrom}
 use Rattle.snapshot_tiers.specs.declared.Head.{Head}
 use Rattle.snapshot_lanes.specs.declared.lanes.Lane.{Lane}
 use Rattle.snapshot_tiers.specs.Payloads.{payloadOf, sizeOf, setsOf}
-use Rattle.snapshot_tiers.specs.TierLaws.{past}
-use Rattle.snapshot_tiers.specs.Heads.{noHead, lowerBy}
+use Rattle.snapshot_tiers.specs.Heads.{past, noHead, lowerBy}
 
 -- a lane's bytes, and the members that it has left
 abbrev pub partOf : List ℕ → Lane → List ℕ

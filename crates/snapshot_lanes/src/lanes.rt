@@ -18,8 +18,7 @@ ghost use Rattle.roaring.specs.Read.{parse64};
 ghost use Rattle.roaring.specs.Scan.{isSome};
 ghost use Rattle.roaring_cursor.specs.Cursor.{Good, membersFrom, membersOf};
 ghost use Rattle.snapshot_tiers.specs.Payloads.{restAfter, isTaken, payloadOf, sizeOf, setsOf};
-ghost use Rattle.snapshot_tiers.specs.TierLaws.{past};
-ghost use Rattle.snapshot_tiers.specs.Heads.{lowerBy};
+ghost use Rattle.snapshot_tiers.specs.Heads.{past, lowerBy};
 ghost use Rattle.snapshot_lanes.specs.Lanes.{laneList, Open, LaneOf, AllOpen, AtFirst, lowestLane, codeLanes, smallHead, Advanced, Opened};
 
 // A set: whether it has a member left, the first one, where its bytes stand, and the cursor behind that member.

@@ -4,7 +4,7 @@ use roaring_check::is_bitmap64;
 ghost use mathlib.Core.Path.{_≡_};
 ghost use Prim.Native.Nat.{_≤_};
 ghost use lib.ListN.{length};
-ghost use Rattle.snapshot_lanes.specs.Ends.{Ended};
+ghost use Rattle.snapshot_lanes.specs.Ends.{setsEnd};
 
 // The place behind the payloads; or they run past the bytes; or one is no bitmap.
 pub enum End {
@@ -16,7 +16,7 @@ pub enum End {
 // The end of the eight payloads from `at` on.
 pub fn sets_end(s: &[u8], at: usize) -> End
     requires { ⌜ at ≤ length (now s) ⌝ }
-    ensures { λ r. ⌜ Ended (now (s .entry)) at r ⌝ }
+    ensures { λ r. ⌜ r ≡ setsEnd 8 at (now (s .entry)) ⌝ }
 {
     let mut p = at;
     let mut k: usize = 0;

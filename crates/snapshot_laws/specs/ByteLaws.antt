@@ -41,7 +41,7 @@ module _ (next : ℕ) (es : List Entry) (o : ordered next es ≡ true) (fits : n
   members-fit : (k : ℕ) → all (λ m. ltb m (2 ^ 64)) (members k es) ≡ true
   members-fit k = all-weaker (λ m. ltb m (2 ^ 64)) (λ m. ltb m next) (λ m h. lt-ltb m (2 ^ 64) (omega (arith, ltb-true m next h))) (members k es) (members-below k next es o)
 
-  pub read-sets : (n k : ℕ) (rows : List Entry) (r : List ℕ) → readSets n k rows (flat (setBytes es) (from k n) ++ r) ≡ taken (laySets es n k rows, r)
+  pub read-sets : (n k : ℕ) (rows : List Entry) (r : List ℕ) → readSets (from k n) rows (flat (setBytes es) (from k n) ++ r) ≡ taken (laySets es n k rows, r)
   unfolding readSets flat from setBytes laySets
   read-sets zero k rows r = refl
   read-sets (suc n) k rows r =

@@ -12,7 +12,7 @@ use native.Mathlib.Decide.{decLe, decLt}
 use lib.ListN.{length, take, drop, getD}
 use lib.Dec.{leb, ltb, eqb}
 use borrow.Author.Tests.{leb-false, ltb-false, leb-true, le-leb, not-true, eqb-true, eqb-false, eq-eqb, ne-eqb, ltb-true, lt-ltb}
-use Rattle.base.specs.Logic.{all, any, fold, elem, ascendingFrom}
+use Rattle.base.specs.Logic.{all, any, fold, from, elem, ascendingFrom}
 use Rattle.base.specs.Laws.{and-left, and-right, and-both}
 use Rattle.counters.specs.Layout.{sound, ordered}
 use Rattle.base.specs.Maybe.{maybe}
@@ -39,8 +39,8 @@ module _ (bs : List ℕ) where
   reaches (suc k) h g = g k (omega arith) .ends
 
   module _ (k n : ℕ) (rows : List Entry) where
-    set-torn : start bs k ≤ length bs → length bs < start bs (suc k) → readSets (suc n) k rows (drop (start bs k) bs) ≡ refused TornSnapshot
-    unfolding readSets start
+    set-torn : start bs k ≤ length bs → length bs < start bs (suc k) → readSets (from k (suc n)) rows (drop (start bs k) bs) ≡ refused TornSnapshot
+    unfolding readSets from start
     set-torn h t =
         elim (decLt (length bs) (start bs k + 8)) [
           | yes g ↦ rw (readLe-short 8 (start bs k) bs (omega arith) g)
@@ -48,23 +48,23 @@ module _ (bs : List ℕ) where
         ]
 
     module _ (ends : start bs (suc k) ≤ length bs) where
-      set-bad : parse64 (payload bs k) ≡ none → readSets (suc n) k rows (drop (start bs k) bs) ≡ refused BadBitmap
-      unfolding readSets start
+      set-bad : parse64 (payload bs k) ≡ none → readSets (from k (suc n)) rows (drop (start bs k) bs) ≡ refused BadBitmap
+      unfolding readSets from start
       set-bad e = rw (readLe-at 8 (start bs k) bs (omega arith), cut-at (unle (take 8 (drop (start bs k) bs))) (start bs k + 8) bs ends, e)
 
       set-good : ¬ (parse64 (payload bs k) ≡ none)
-          → readSets (suc n) k rows (drop (start bs k) bs) ≡ readSets n (suc k) (layBit k (setOf bs k) rows) (drop (start bs (suc k)) bs)
-      unfolding readSets start setOf
+          → readSets (from k (suc n)) rows (drop (start bs k) bs) ≡ readSets (from (suc k) n) (layBit k (setOf bs k) rows) (drop (start bs (suc k)) bs)
+      unfolding readSets from start setOf
       set-good g = rw (readLe-at 8 (start bs k) bs (omega arith), cut-at (unle (take 8 (drop (start bs k) bs))) (start bs k + 8) bs ends) (go (parse64 (payload bs k)) g)
         where
           go : (o : Option (List ℕ)) → ¬ (o ≡ none)
-              → (orRefuse BadBitmap o >>= (λ ms. readSets n (suc k) (layBit k ms rows) (drop (start bs k + 8 + unle (take 8 (drop (start bs k) bs))) bs)))
-              ≡ readSets n (suc k) (layBit k (maybe [] (λ ms. ms) o) rows) (drop (start bs k + 8 + unle (take 8 (drop (start bs k) bs))) bs)
+              → (orRefuse BadBitmap o >>= (λ ms. readSets (from (suc k) n) (layBit k ms rows) (drop (start bs k + 8 + unle (take 8 (drop (start bs k) bs))) bs)))
+              ≡ readSets (from (suc k) n) (layBit k (maybe [] (λ ms. ms) o) rows) (drop (start bs k + 8 + unle (take 8 (drop (start bs k) bs))) bs)
           go none h = absurd (h refl)
           go (some ms) h = refl
 
   -- good sets are passed
-  pass : (k n : ℕ) → GoodBefore bs k → readSets (k + n) 0 [] (drop 17 bs) ≡ readSets n k (smallOf bs k) (drop (start bs k) bs)
+  pass : (k n : ℕ) → GoodBefore bs k → readSets (from 0 (k + n)) [] (drop 17 bs) ≡ readSets (from k n) (smallOf bs k) (drop (start bs k) bs)
   unfolding start smallOf
   pass zero n g = rw (zero-add n)
   pass (suc k) n g =
@@ -151,7 +151,7 @@ module _ (base room : ℕ) where
         | no g ↦ rw (eq-eqb v 1 e, readLe-at 8 1 (v ∷ r) (omega arith), readLe-short 8 9 (v ∷ r) (omega arith) h)
       ]
 
-  headed : (bs : List ℕ) → getD bs 0 0 ≡ 1 → 17 ≤ length bs → readSnapshot base room bs ≡ (readSets 8 0 [] (drop 17 bs) >>= after bs)
+  headed : (bs : List ℕ) → getD bs 0 0 ≡ 1 → 17 ≤ length bs → readSnapshot base room bs ≡ (readSets (from 0 8) [] (drop 17 bs) >>= after bs)
   unfolding readSnapshot
   headed [] e h = absurd (omega arith)
   headed (v ∷ r) e h = rw (eq-eqb v 1 e, readLe-at 8 1 (v ∷ r) (omega arith), readLe-at 8 9 (v ∷ r) h)
@@ -178,7 +178,7 @@ module _ (base room : ℕ) where
       ∙ rw (q, pass bs k (suc n) (t .before), set-bad bs k n (smallOf bs k) (t .ends) (t .breaks))
 
   good-read : (bs : List ℕ) → getD bs 0 0 ≡ 1 → GoodBefore bs 8 → readSnapshot base room bs ≡ tested bs
-  unfolding readSets
+  unfolding readSets from
   good-read bs e g =
       headed bs e (omega (arith, starts bs 8, g 7 (omega arith) .ends)) ∙ ap (λ (o : Outcome (List Entry × List ℕ)). o >>= after bs) (pass bs 8 0 g) ∙ after-tested bs
 

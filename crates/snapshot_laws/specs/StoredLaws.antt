@@ -12,7 +12,8 @@ use borrow.Author.Tests.{le-leb, leb-true, eqb-true, eqb-false}
 use Rattle.base.specs.Logic.{pick, all, any, fold, elem, ascendingFrom}
 use Rattle.base.specs.Laws.{and-left, and-right}
 use Rattle.base.specs.ListLaws.{eqb-eq, Some, here, there, some-weaker, any-some}
-use Rattle.rows.specs.OrderLaws.{putRows-all}
+use Rattle.rows.specs.RowLaws.{all-put}
+use Rattle.rows.specs.KeyLaws.{putRows}
 use Rattle.counters.specs.Counts.{Entry, storedAt, countAt, rowOf, setCount}
 use Rattle.counters.specs.CountLaws.{storedAt-setCount}
 use Rattle.counters.specs.ApplyLaws.{set-ascends}
@@ -33,8 +34,8 @@ row-two i n = go (leb 2 n) refl
     go false q = refl
 
 set-two : (i n : ℕ) (es : List Entry) → all two es ≡ true → all two (setCount i n es) ≡ true
-unfolding setCount
-set-two i n es a = putRows-all (λ e. e .idx) two i (suc i) (rowOf i n) es (row-two i n) a
+unfolding setCount putRows
+set-two i n es a = all-put (λ e. e .idx) i (suc i) (rowOf i n) es two a (row-two i n)
 
 -- ---- a row has the index exactly where a count is stored
 pub stored-some : (j : ℕ) (es : List Entry) → all two es ≡ true → (0 < storedAt j es) ↔ Some (λ e. j ≡ e .idx) es

@@ -17,7 +17,8 @@ use Rattle.base.specs.declared.Refusal.the-variants.{Spent, Broken}
 use Rattle.base.specs.declared.Answer.{Answer}
 use Rattle.base.specs.declared.Answer.the-variants.{Taken, Refused}
 use Rattle.rows.specs.Table.{rowsOf}
-use Rattle.rows.specs.OrderLaws.{putRows-all}
+use Rattle.rows.specs.RowLaws.{all-put}
+use Rattle.rows.specs.KeyLaws.{putRows}
 use Rattle.counters.specs.declared.Counters.{Counters}
 use Rattle.counters.specs.declared.CounterTransition.{CounterTransition}
 use Rattle.counters.specs.declared.NextIdx.{NextIdx}
@@ -46,13 +47,13 @@ row-fits i n h = go (leb 2 n)
     go false = refl
 
 counts-fit-after : (ts : List CounterTransition) (es : List Entry) → all (λ t. ltb (t .«new_raw») (2 ^ 64)) ts ≡ true → all fits es ≡ true → all fits (countsAfter ts es) ≡ true
-unfolding countsAfter fold all setCount
+unfolding countsAfter fold all setCount putRows
 counts-fit-after [] es a f = f
 counts-fit-after (t ∷ ts) es a f =
     let small : Bool = all (λ u. ltb (u .«new_raw») (2 ^ 64)) ts in
     counts-fit-after ts (setCount (t .idx .0) (t .«new_raw») es) (and-right (ltb (t .«new_raw») (2 ^ 64)) small a)
-    (putRows-all (λ e. e .idx) fits (t .idx .0) (suc (t .idx .0)) (rowOf (t .idx .0) (t .«new_raw»)) es
-    (row-fits (t .idx .0) (t .«new_raw») (and-left (ltb (t .«new_raw») (2 ^ 64)) small a)) f)
+    (all-put (λ e. e .idx) (t .idx .0) (suc (t .idx .0)) (rowOf (t .idx .0) (t .«new_raw»)) es fits f
+    (row-fits (t .idx .0) (t .«new_raw») (and-left (ltb (t .«new_raw») (2 ^ 64)) small a)))
 
 -- ---- a batch that is taken
 pub applied-well-formed : (room : ℕ) (s : State) (ts : List CounterTransition) (s′ : State) → applyBatch room s ts ≡ taken s′ → WellFormed s

@@ -1,3 +1,4 @@
--- `PartLaws`: a snapshot's parts one after the other. `BoundLaws`: its length fits.
+-- `Parts`: the parts of a snapshot. `PartLaws`: they stand one after the other. `BoundLaws`: its length fits.
+pub mod Parts
 pub mod PartLaws
 pub mod BoundLaws

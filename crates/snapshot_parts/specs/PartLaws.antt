@@ -24,6 +24,7 @@ use Rattle.counters.specs.Counts.{smallCode, inSet, members, large}
 use Rattle.counters.specs.Layout.{countRow, stateOf}
 use Rattle.counters.specs.RowLaws.{from-row}
 use Rattle.snapshot.specs.Write.{setBytes, largeBytes, snapshotBytes}
+use Rattle.snapshot_parts.specs.Parts.{setsFrom, largeFrom}
 
 -- ---- a list in two parts, of which the first is put
 pub put-next : (t o w : List ℕ) (at to : ℕ) (x y : List ℕ) → putAt t at (x ++ y) ≡ w → o ≡ putAt t at x → to ≡ at + length x → at ≤ length t → putAt o to y ≡ w
@@ -68,44 +69,37 @@ module _ (n : ℕ) (t : List ℕ) where
       let m : at + 8 ≤ length o = omega (arith, length-set k) in
       rw (g, e, q, length-set k, set-parts k) (paste-prepend o at (le64 (length b)) b 8 (length b) (length-digits 256 8 (length b)) refl m)
 
-  -- the bytes of the sets from set k on
-  abbrev pub setsFrom : ℕ → List ℕ
-  setsFrom k = flat (setBytes (rowsOf countRow n t)) (from k (8 - k))
-
-  pub sets-next : (k : ℕ) → k < 8 → setsFrom k ≡ setBytes (rowsOf countRow n t) k ++ setsFrom (k + 1)
+  -- the sets from set k on
+  pub sets-next : (k : ℕ) → k < 8 → setsFrom n t k ≡ setBytes (rowsOf countRow n t) k ++ setsFrom n t (k + 1)
   unfolding flat
   sets-next k h = rw (from-next k 8 h)
 
-  pub sets-length : (k : ℕ) → k < 8 → length (setsFrom k) ≡ length (setBytes (rowsOf countRow n t) k) + length (setsFrom (k + 1))
-  sets-length k h = rw (sets-next k h, length-append (setBytes (rowsOf countRow n t) k) (setsFrom (k + 1)))
+  pub sets-length : (k : ℕ) → k < 8 → length (setsFrom n t k) ≡ length (setBytes (rowsOf countRow n t) k) + length (setsFrom n t (k + 1))
+  sets-length k h = rw (sets-next k h, length-append (setBytes (rowsOf countRow n t) k) (setsFrom n t (k + 1)))
 
-  pub sets-end : (k : ℕ) → 8 ≤ k → setsFrom k ≡ []
+  pub sets-end : (k : ℕ) → 8 ≤ k → setsFrom n t k ≡ []
   unfolding flat from
   sets-end k h =
       let q : 8 - k ≡ 0 = omega arith in
       rw q
 
   -- ---- the large tier
-  -- the bytes of the large counts from row i on
-  abbrev pub largeFrom : ℕ → List ℕ
-  largeFrom i = flat largeBytes (large (drop i (rowsOf countRow n t)))
-
   module _ (i : ℕ) (h : i < n) where
-    pub large-next : 257 ≤ getD t (i * 2 + 1) 0 → largeFrom i ≡ (le64 (getD t (i * 2) 0) ++ le64 (getD t (i * 2 + 1) 0)) ++ largeFrom (i + 1)
+    pub large-next : 257 ≤ getD t (i * 2 + 1) 0 → largeFrom n t i ≡ (le64 (getD t (i * 2) 0) ++ le64 (getD t (i * 2 + 1) 0)) ++ largeFrom n t (i + 1)
     unfolding large keep flat largeBytes
     large-next l = rw (add-one i, from-row n t i h, le-leb 257 (getD t (i * 2 + 1) 0) l)
 
-    pub large-skip : getD t (i * 2 + 1) 0 < 257 → largeFrom i ≡ largeFrom (i + 1)
+    pub large-skip : getD t (i * 2 + 1) 0 < 257 → largeFrom n t i ≡ largeFrom n t (i + 1)
     unfolding large keep
     large-skip l = rw (add-one i, from-row n t i h, lt-leb 257 (getD t (i * 2 + 1) 0) l)
 
-    pub large-length : 257 ≤ getD t (i * 2 + 1) 0 → length (largeFrom i) ≡ 16 + length (largeFrom (i + 1))
+    pub large-length : 257 ≤ getD t (i * 2 + 1) 0 → length (largeFrom n t i) ≡ 16 + length (largeFrom n t (i + 1))
     large-length l =
         let x : ℕ = getD t (i * 2) 0 in
         let y : ℕ = getD t (i * 2 + 1) 0 in
-        rw (large-next l, length-append (le64 x ++ le64 y) (largeFrom (i + 1)), length-append (le64 x) (le64 y), length-digits 256 8 x, length-digits 256 8 y)
+        rw (large-next l, length-append (le64 x ++ le64 y) (largeFrom n t (i + 1)), length-append (le64 x) (le64 y), length-digits 256 8 x, length-digits 256 8 y)
 
-  pub large-end : (i : ℕ) → n ≤ i → i ≤ n → largeFrom i ≡ []
+  pub large-end : (i : ℕ) → n ≤ i → i ≤ n → largeFrom n t i ≡ []
   unfolding large keep flat
   large-end i h k =
       let e : i ≡ length (rowsOf countRow n t) = omega (arith, length-rowsOf countRow n t) in

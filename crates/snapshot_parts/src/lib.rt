@@ -15,7 +15,7 @@ ghost use Rattle.roaring_rows.specs.PlaceLaws.{putAt};
 ghost use Rattle.counters.specs.Layout.{countRow};
 ghost use Rattle.counters.specs.Held.{InOrder};
 ghost use Rattle.snapshot.specs.Write.{setBytes};
-ghost use Rattle.snapshot_parts.specs.PartLaws.{setsFrom, largeFrom};
+ghost use Rattle.snapshot_parts.specs.Parts.{setsFrom, largeFrom};
 
 // How many sets hold the small tier.
 const SETS: u32 = 8;

@@ -21,27 +21,20 @@ use Rattle.counters.specs.declared.Counters.{Counters}
 use Rattle.counters.specs.Counts.{Entry, freshMaintenance, fresh}
 use Rattle.counters.specs.Layout as layout
 use Rattle.counters.specs.Layout.{countRow, recordOf}
+use Rattle.counters.specs.CodingLaws.{count-lawful}
 use Rattle.counters.specs.Calls.{laid, laidOut}
 use Rattle.counters.specs.Maintenance.{standard}
 use Rattle.snapshot.specs.Calls.{deserializeCall}
 use Rattle.snapshot_tiers.specs.declared.Head.{Head}
 use Rattle.snapshot_judge.specs.declared.decide.Plan.{Plan}
 use Rattle.snapshot_judge.specs.declared.decide.Verdict.the-variants as verdicts
-use Rattle.snapshot_tiers.specs.TierLaws.{entry, fromIdx, tierOf}
-use Rattle.snapshot_tiers.specs.Heads.{setAll}
+use Rattle.snapshot_tiers.specs.TierLaws.{fromIdx}
+use Rattle.snapshot_tiers.specs.Heads.{entry, tierOf, setAll}
 use Rattle.snapshot_tiers.specs.JoinLaws.{Front, restOf}
 use Rattle.snapshot_judge.specs.Judge.{far}
-use Rattle.snapshot_judge.specs.Decide.{countsOf, Decided, Planned}
-
--- the record of new counters
-abbrev pub freshRecord : ℕ → ℕ → ℕ → ℕ → Counters
-freshRecord next live stored base =
-    record {
-      «next_idx» = record { 0 = next };
-      «live_cells» = live;
-      stored = stored;
-      maintenance = record { «alive_removed_since_shrink» = 0; «small_removed_since_shrink» = zeros 8; «min_alive_removed_before_shrink» = base };
-    }
+use Rattle.snapshot_judge.specs.Decide.{countsOf, Planned}
+use Rattle.snapshot_judge.specs.DecideLaws.{Decided}
+use Rattle.snapshot_read.specs.Fresh.{freshRecord}
 
 -- ---- a row behind the others
 module _ (len : ℕ) (es : List Entry) (i n : ℕ) (room : length es * 2 + 2 ≤ len) where
@@ -49,12 +42,12 @@ module _ (len : ℕ) (es : List Entry) (i n : ℕ) (room : length es * 2 + 2 ≤
   put-row =
       let t = tableOf countRow len es in
       let k = length es in
-      let l : length t ≡ len = length-table countRow len es (omega arith) in
+      let l : length t ≡ len = length-table count-lawful len es (omega arith) in
       let z : k * 2 - k * 2 ≡ 0 = omega arith in
-      let g = inserted countRow k t (laid-table countRow len es (omega arith)) k (entry i n) (omega arith) (omega arith) in
+      let g = inserted count-lawful k t (laid-table count-lawful len es (omega arith)) k (entry i n) (omega arith) (omega arith) in
       paste-two t (k * 2) i n (omega arith)
       ∙ paste-right t (k * 2) (i ∷ n ∷ []) 2
-      ∙ (rw (z, rowsOf-table countRow len es, take-length es, drop-length es, append-nil (entry i n ∷ []), l) at g)
+      ∙ (rw (z, rowsOf-table count-lawful len es, take-length es, drop-length es, append-nil (entry i n ∷ []), l) at g)
 
 -- ---- a step of laying
 module _ (len k : ℕ) (both rest : List Entry) (x n : ℕ) (here : drop k both ≡ entry x n ∷ rest) where

@@ -25,7 +25,7 @@ ghost use Rattle.counters.specs.Maintenance.{standard};
 ghost use Rattle.counters.specs.Calls.{effect};
 ghost use Rattle.snapshot.specs.Calls.{deserializeCall};
 ghost use Rattle.snapshot_judge.specs.Decide.{countsOf, Planned};
-ghost use Rattle.snapshot_read.specs.LayLaws.{freshRecord};
+ghost use Rattle.snapshot_read.specs.Fresh.{freshRecord};
 
 // The counts of both tiers go into a table of zeros, by index.
 fn lay(t: &mut [u64], s: &[u8], p: Plan)

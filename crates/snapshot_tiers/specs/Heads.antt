@@ -1,15 +1,29 @@
--- The first index of sets, of large counts, and of both, as the code finds it.
+-- The two tiers of a snapshot, and the first index of sets, of large counts, and of both, as the code finds it.
 -- Assumes nothing.
+use mathlib.Core.Path.{_≡_}
 use mathlib.Core.Bool.{Bool, true, false, _&&_}
-use mathlib.Core.List.{List, [], _∷_}
-use Prim.Native.Nat.{ℕ, zero, suc}
+use mathlib.Core.List.{List, [], _∷_, map}
+use Prim.Native.Nat.{ℕ, zero, suc, _≤_}
 use lib.ListN.{take, drop}
 use lib.Dec.{leb, ltb, eqb}
 use Rattle.base.specs.Logic.{pick, fold, any}
 use Rattle.base.specs.Bytes.{unle}
 use Rattle.counters.specs.Counts.{Entry, storedAt, setCount}
 use Rattle.snapshot_tiers.specs.declared.Head.{Head}
-use Rattle.snapshot_tiers.specs.TierLaws.{entry}
+use Rattle.snapshot_tiers.specs.Payloads.{layAll}
+
+-- a count at an index
+abbrev pub entry : ℕ → ℕ → Entry
+entry i n = record { idx = i; count = n }
+
+-- the small tier of sets
+abbrev pub tierOf : List (List ℕ) → List Entry
+tierOf xss = layAll 0 xss []
+
+-- a set without its first member, where that is x
+unfoldable pub past : ℕ → List ℕ → List ℕ
+past x [] = []
+past x (y ∷ ys) = pick (eqb y x) ys (y ∷ ys)
 
 -- nothing
 abbrev pub noHead : Head
@@ -30,6 +44,14 @@ unfoldable pub rawOf : ℕ → List ℕ → List Entry
 rawOf zero bs = []
 rawOf (suc n) bs = entry (unle (take 8 bs)) (unle (take 8 (drop 8 bs))) ∷ rawOf n (drop 16 bs)
 
+-- their indices
+abbrev pub idxsOf : ℕ → List ℕ → List ℕ
+idxsOf n bs = map (λ e. e .idx) (rawOf n bs)
+
+-- a count that belongs to the small tier
+abbrev pub low : Entry → Bool
+low e = ltb (e .count) 257
+
 -- counts set one after the other
 abbrev pub setAll : List Entry → List Entry → List Entry
 setAll new es = fold (λ e. setCount (e .idx) (e .count)) new es
@@ -37,6 +59,12 @@ setAll new es = fold (λ e. setCount (e .idx) (e .count)) new es
 -- the lowest index from lo on, with its last count
 abbrev pub lowerFrom : ℕ → Entry → Head → Head
 lowerFrom lo e h = pick (ltb (e .idx) lo) h (pick (h .found && ltb (h .idx) (e .idx)) h (record { found = true; idx = e .idx; count = e .count }))
+
+-- the head from some place on that isn't past lo
+pub record HeadTo (lo : ℕ) (raw : List Entry) (b : Head) : Type 0 where
+  pub from : ℕ
+  pub below : from ≤ lo
+  pub is : b ≡ fold (lowerFrom from) raw noHead
 
 -- a count is stored at the index of one of them
 abbrev pub clashes : List Entry → List Entry → Bool

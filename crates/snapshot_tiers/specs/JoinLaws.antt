@@ -15,9 +15,9 @@ use Rattle.base.specs.ListLaws.{all-weaker, keep-whole, keep-narrow, all-kept}
 use Rattle.counters.specs.Counts.{Entry, storedAt, setCount}
 use Rattle.snapshot_tiers.specs.declared.Head.{Head}
 use Rattle.snapshot_tiers.specs.Payloads.{layAll}
-use Rattle.snapshot_tiers.specs.TierLaws.{entry, fromIdx, Above, past, bitAt, codeFrom, withCode, tierOf, set-front, set-hit, set-behind, stored-below, stored-behind, code-some, tier-step, tier-rest}
+use Rattle.snapshot_tiers.specs.TierLaws.{fromIdx, Above, bitAt, codeFrom, withCode, set-front, set-hit, set-behind, stored-below, stored-behind, code-some, tier-step, tier-rest}
 use Rattle.snapshot.specs.Read.{layBit}
-use Rattle.snapshot_tiers.specs.Heads.{noHead, lowest, setAll, clashes, firstOf, meet}
+use Rattle.snapshot_tiers.specs.Heads.{entry, past, tierOf, noHead, lowest, setAll, clashes, firstOf, meet}
 
 -- counts with the count n at x before them, where that isn't 0
 unfoldable pub withRow : ℕ → ℕ → List Entry → List Entry

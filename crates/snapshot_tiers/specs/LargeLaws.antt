@@ -15,17 +15,13 @@ use Rattle.base.specs.ListLaws.{or-false, all-weaker, keep-empty, keep-append, 
 use Rattle.base.specs.Bytes.{unle}
 use Rattle.base.specs.Answers.{Outcome, taken, _>>_, refuseIf}
 use Rattle.base.specs.declared.Refusal.the-variants.{BadLarge}
-use Rattle.rows.specs.Keys.{putRows}
+use Rattle.rows.specs.KeyLaws.{putRows}
 use Rattle.counters.specs.Counts.{Entry, rowOf, setCount}
 use Rattle.snapshot.specs.Read.{readLarge}
 use Rattle.snapshot_tiers.specs.declared.Head.{Head}
-use Rattle.snapshot_tiers.specs.TierLaws.{entry, fromIdx, Above, set-behind}
-use Rattle.snapshot_tiers.specs.Heads.{noHead, rawOf, setAll, lowerFrom}
+use Rattle.snapshot_tiers.specs.TierLaws.{fromIdx, Above, set-behind}
+use Rattle.snapshot_tiers.specs.Heads.{low, entry, noHead, rawOf, setAll, lowerFrom}
 use Rattle.snapshot_tiers.specs.JoinLaws.{Large}
-
--- a count that belongs to the small tier
-abbrev pub low : Entry → Bool
-low e = ltb (e .count) 257
 
 pub large-read : (n : ℕ) (es : List Entry) (bs : List ℕ) → readLarge n es bs ≡ (refuseIf (any low (rawOf n bs)) BadLarge >> taken (setAll (rawOf n bs) es))
 unfolding readLarge rawOf any fold

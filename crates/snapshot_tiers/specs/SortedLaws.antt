@@ -15,12 +15,8 @@ use Rattle.rows.specs.Keys.{place}
 use Rattle.rows.specs.KeyLaws.{place-lt, place-ge}
 use Rattle.counters.specs.Counts.{Entry}
 use Rattle.snapshot_tiers.specs.declared.Head.{Head}
-use Rattle.snapshot_tiers.specs.Heads.{noHead, rawOf, lowerFrom}
+use Rattle.snapshot_tiers.specs.Heads.{idxsOf, noHead, rawOf, lowerFrom}
 use Rattle.snapshot_tiers.specs.LargeLaws.{raw-next, raw-end, from-unasked, from-kept, from-first}
-
--- the indices of n large counts
-abbrev pub idxsOf : ℕ → List ℕ → List ℕ
-idxsOf n bs = map (λ e. e .idx) (rawOf n bs)
 
 pub length-idxs : (n : ℕ) (bs : List ℕ) → length (idxsOf n bs) ≡ n
 unfolding rawOf

@@ -11,7 +11,7 @@ use borrow.Author.Tests.{ltb-false, lt-ltb, le-ltb}
 use Rattle.base.specs.Logic.{pick, fold}
 use Rattle.counters.specs.Counts.{Entry}
 use Rattle.snapshot_tiers.specs.declared.Head.{Head}
-use Rattle.snapshot_tiers.specs.Heads.{noHead, lowerFrom}
+use Rattle.snapshot_tiers.specs.Heads.{HeadTo, noHead, lowerFrom}
 
 -- the head that an entry makes
 abbrev at : Entry → Head
@@ -84,12 +84,6 @@ stays lo x g (e ∷ raw) h above last =
           ∙ stays lo x g raw h above (subst (λ (k : Head). fold (lowerFrom lo) raw k .found ≡ true → x < fold (lowerFrom lo) raw k .idx) p last)
           ∙ ap (fold (lowerFrom (suc x)) raw) q
     ]
-
--- the head from some place on that isn't past lo
-pub record HeadTo (lo : ℕ) (raw : List Entry) (b : Head) : Type 0 where
-  pub from : ℕ
-  pub below : from ≤ lo
-  pub is : b ≡ fold (lowerFrom from) raw noHead
 
 pub head-stays : (lo : ℕ) (raw : List Entry) (b : Head) → HeadTo lo raw b → (b .found ≡ true → lo ≤ b .idx) → b ≡ fold (lowerFrom lo) raw noHead
 head-stays zero raw b t above = let z : t .from ≡ 0 = (let l = t .below in omega arith) in t .is ∙ ap (λ (k : ℕ). fold (lowerFrom k) raw noHead) z

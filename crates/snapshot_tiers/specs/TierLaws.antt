@@ -11,14 +11,12 @@ use borrow.Author.Tests.{le-leb, lt-leb, le-ltb, lt-ltb, leb-true, eqb-true, eqb
 use Rattle.base.specs.Logic.{pick, all, keep, fold, ascendingFrom}
 use Rattle.base.specs.Laws.{and-left, and-right, and-both, ascending-head, ascending-tail, ascending-lower}
 use Rattle.base.specs.ListLaws.{keep-whole, keep-empty}
-use Rattle.rows.specs.Keys.{putRows}
-use Rattle.rows.specs.OrderLaws.{putRows-all}
+use Rattle.rows.specs.RowLaws.{all-put}
+use Rattle.rows.specs.KeyLaws.{putRows}
 use Rattle.counters.specs.Counts.{Entry, storedAt, countAt, rowOf, setCount}
 use Rattle.snapshot.specs.Read.{layBit}
 use Rattle.snapshot_tiers.specs.Payloads.{layAll}
-
-abbrev pub entry : ℕ → ℕ → Entry
-entry i n = record { idx = i; count = n }
+use Rattle.snapshot_tiers.specs.Heads.{entry, past, tierOf}
 
 -- the counts from an index on, and that there are no others
 abbrev pub fromIdx : ℕ → List Entry → List Entry
@@ -27,11 +25,7 @@ fromIdx lo es = keep (λ e. leb lo (e .idx)) es
 abbrev pub Above : ℕ → List Entry → Type 0
 Above lo es = all (λ e. leb lo (e .idx)) es ≡ true
 
--- a list without its head where that is x, and the bit that it lays at x
-unfoldable pub past : ℕ → List ℕ → List ℕ
-past x [] = []
-past x (y ∷ ys) = pick (eqb y x) ys (y ∷ ys)
-
+-- the bit that a set lays at x, where x is its first member
 unfoldable pub bitAt : ℕ → ℕ → List ℕ → ℕ
 bitAt k x [] = 0
 bitAt k x (y ∷ ys) = pick (eqb y x) (2 ^ k) 0
@@ -79,8 +73,8 @@ module _ (i n : ℕ) (es : List Entry) where
   set-behind e h = rw (lt-ltb (e .idx) i h, lt-leb (suc i) (e .idx) (omega arith))
 
   pub set-above : (lo : ℕ) → lo ≤ i → Above lo es → Above lo (setCount i n es)
-  unfolding setCount rowOf all
-  set-above lo h a = putRows-all (λ e. e .idx) (λ e. leb lo (e .idx)) i (suc i) (rowOf i n) es (row (leb 2 n)) a
+  unfolding setCount rowOf all putRows
+  set-above lo h a = all-put (λ e. e .idx) i (suc i) (rowOf i n) es (λ e. leb lo (e .idx)) a (row (leb 2 n))
     where
       row : (b : Bool) → all (λ e. leb lo (e .idx)) (pick b (entry i n ∷ []) []) ≡ true
       row true = rw (le-leb lo i h)
@@ -207,10 +201,6 @@ all-past x [] h = refl
 all-past x (xs ∷ xss) h =
     and-both (ascendingFrom (suc x) (past x xs)) (all (ascendingFrom (suc x)) (map (past x) xss))
     (past-above x xs (and-left (ascendingFrom x xs) (all (ascendingFrom x) xss) h)) (all-past x xss (and-right (ascendingFrom x xs) (all (ascendingFrom x) xss) h))
-
--- the small tier of sets
-abbrev pub tierOf : List (List ℕ) → List Entry
-tierOf xss = layAll 0 xss []
 
 module _ (x : ℕ) (xss : List (List ℕ)) (h : all (ascendingFrom x) xss ≡ true) where
   pub tier-step : tierOf xss ≡ withCode x (codeFrom 0 x xss) (tierOf (map (past x) xss))

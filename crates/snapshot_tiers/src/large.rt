@@ -9,11 +9,7 @@ ghost use Prim.Native.Nat.{_+_, _*_, _≤_};
 ghost use lib.ListN.{length, drop};
 ghost use Rattle.base.specs.Logic.{any, fold, ascendingFrom};
 ghost use Rattle.rows.specs.Keys.{place};
-ghost use Rattle.snapshot_tiers.specs.TierLaws.{entry};
-ghost use Rattle.snapshot_tiers.specs.StayLaws.{HeadTo};
-ghost use Rattle.snapshot_tiers.specs.Heads.{noHead, rawOf, lowerFrom};
-ghost use Rattle.snapshot_tiers.specs.LargeLaws.{low};
-ghost use Rattle.snapshot_tiers.specs.SortedLaws.{idxsOf};
+ghost use Rattle.snapshot_tiers.specs.Heads.{HeadTo, idxsOf, low, entry, noHead, rawOf, lowerFrom};
 
 // Whether one of n counts belongs to the small tier.
 pub fn any_low(s: &[u8], at: usize, n: usize) -> bool

@@ -10,9 +10,8 @@ use libc::STDOUT_FILENO;
 ghost use mathlib.Core.Path.{_≡_};
 ghost use mathlib.Core.List.{[], _∷_};
 ghost use Rattle.counters.specs.Calls.{effect, batchCall};
-ghost use Rattle.counters.specs.Maintenance.{standard};
-ghost use Rattle.counters.specs.MaintenanceLaws.{adjusted};
-ghost use Rattle.counter_walk.specs.Words.{wordsOf};
+ghost use Rattle.counters.specs.Maintenance.{standard, adjusted};
+ghost use Rattle.counters.specs.Layout.{wordsOf};
 
 // The record after its threshold was moved through a loan.
 fn lent(m: CounterMaintenance, bytes_saved: u64) -> CounterMaintenance

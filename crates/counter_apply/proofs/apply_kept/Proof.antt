@@ -5,7 +5,7 @@ use borrow.Author.Needs.{needs}
 use Rattle.counters.specs.Batch.{kept}
 use Rattle.counters.specs.Steps.{transitions}
 use Rattle.counters.specs.JudgeLaws.{total-within}
-use Rattle.counters.specs.KeptLaws.{first-order, second-order, second-fits, record-after, table-after}
+use Rattle.counter_steps.specs.KeptLaws.{first-order, second-order, second-fits, record-after, table-after}
 use Rattle.counter_apply.specs.RoomLaws.{judged-stand}
 use Rattle.counter_apply.proofs.apply_kept.Statement.{statement}
 use Rattle.counter_apply.proofs.apply_kept.Tie as tie

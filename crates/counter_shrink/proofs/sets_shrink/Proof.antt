@@ -12,7 +12,7 @@ use Rattle.counter_shrink.proofs.sets_shrink.Statement.{statement}
 use Rattle.counter_shrink.proofs.sets_shrink.Tie as tie
 
 abbrev Inv-loop : tie.InvT-loop
-Inv-loop t n removed small₀ k₀ small k = (k ≤ 8) × ((length small ≡ 8) × (take k small ≡ take k (setsShrink (rowsOf countRow n t) 0 removed)))
+Inv-loop t n removed small₀ k₀ small k = (k ≤ 8) × ((length small ≡ 8) × (take k small ≡ take k (setsShrink (rowsOf countRow n t) removed)))
 
 abbrev μ-loop : tie.MeasureT-loop
 μ-loop t n removed small₀ k₀ small k = 8 - k
@@ -46,16 +46,16 @@ loop-again c =
     let l = c .before .before .loop in
     let a = c .before .before .before .before .args in
     let es = rowsOf countRow (a .n) (a .t .now) in
-    let g = length-sets es 0 (a .t3) in
-    (omega arith, (simp length-set (l .inv .1 .0), filled-next false (l .small) (setsShrink es 0 (a .t3)) (l .k) (l .inv .1 .1) (c .should-shrink-set .result) (omega arith) (omega arith) (c .should-shrink-set .ensures ∙ sym (set-at es (a .t3) (l .k) (omega arith)))))
+    let g = length-sets es (a .t3) in
+    (omega arith, (simp length-set (l .inv .1 .0), filled-next false (l .small) (setsShrink es (a .t3)) (l .k) (l .inv .1 .1) (c .should-shrink-set .result) (omega arith) (omega arith) (c .should-shrink-set .ensures ∙ sym (set-at es (a .t3) (l .k) (omega arith)))))
 
 returns : tie.Need-returns Inv-loop μ-loop
 returns c =
     let l = c .before .loop in
     let a = c .before .before .before .args in
     let es = rowsOf countRow (a .n) (a .t .now) in
-    let g = length-sets es 0 (a .t3) in
-    filled-end false (l .small) (setsShrink es 0 (a .t3)) (l .k) (l .inv .1 .1) (omega arith) (omega arith)
+    let g = length-sets es (a .t3) in
+    filled-end false (l .small) (setsShrink es (a .t3)) (l .k) (l .inv .1 .1) (omega arith) (omega arith)
 
 pub sets-shrink-spec : {M : Type 1} → statement M
 sets-shrink-spec =

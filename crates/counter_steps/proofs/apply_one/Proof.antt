@@ -2,9 +2,10 @@ use mathlib.Core.Path.{sym, _∙_}
 use borrow.Author.Needs.{needs}
 use Rattle.rows.specs.Table.{rowsOf}
 use Rattle.counters.specs.Layout.{countRow}
+use Rattle.counters.specs.CodingLaws.{count-lawful}
 use Rattle.counters.specs.Steps.{transition}
 use Rattle.rows.specs.TableLaws.{table-rowsOf, length-rowsOf}
-use Rattle.counters.specs.ApplyLaws.{one-due, one-other}
+use Rattle.counter_steps.specs.PassLaws.{one-due, one-other}
 use Rattle.counter_steps.proofs.apply_one.Statement.{statement}
 use Rattle.counter_steps.proofs.apply_one.Tie as tie
 
@@ -32,7 +33,7 @@ returns-2 c =
     let s = c .before .before .before in
     let a = s .args in
     let e = one-other (a .many) (transition (a .idx) (a .old) (a .new)) (rowsOf countRow (a .n) (a .t .now)) (sym (c .before .is-due .ensures) ∙ c .if1 .left) in
-    rw e (sym (length-rowsOf countRow (a .n) (a .t .now)), sym (table-rowsOf countRow (a .n) (a .t .now) (s .pre .0 .laid)))
+    rw e (sym (length-rowsOf countRow (a .n) (a .t .now)), sym (table-rowsOf count-lawful (a .n) (a .t .now) (s .pre .0 .laid)))
 
 pub apply-one-spec : {M : Type 1} → statement M
 apply-one-spec =

@@ -3,7 +3,8 @@ use mathlib.Core.Bool.{Bool}
 use Prim.Native.Nat.{ℕ}
 use borrow.Author.Needs.{needs}
 use Rattle.base.specs.Logic.{pick}
-use Rattle.counters.specs.Steps.{transition, ofKind}
+use Rattle.counters.specs.Steps.{transition}
+use Rattle.counter_steps.specs.Steps.{ofKind}
 use Rattle.counters.specs.StepLaws.{unchanged, changed}
 use Rattle.counter_steps.proofs.counts.Statement.{statement}
 use Rattle.counter_steps.proofs.counts.Tie as tie

@@ -13,7 +13,7 @@ use Rattle.counter_steps.proofs.grown_sets.Statement.{statement}
 use Rattle.counter_steps.proofs.grown_sets.Tie as tie
 
 abbrev Inv-loop : tie.InvT-loop
-Inv-loop b removed small₀ k₀ small k = (k ≤ 8) × ((length small ≡ 8) × (take k small ≡ take k (grownSets (kept (transitions b)) 0 removed)))
+Inv-loop b removed small₀ k₀ small k = (k ≤ 8) × ((length small ≡ 8) × (take k small ≡ take k (grownSets (kept (transitions b)) removed)))
 
 abbrev μ-loop : tie.MeasureT-loop
 μ-loop b removed small₀ k₀ small k = 8 - k
@@ -53,16 +53,16 @@ loop-again c =
     let l = c .before .before .before .loop in
     let a = c .before .before .before .before .before .args in
     let ts = kept (transitions (a .b .now)) in
-    let g = length-grown ts 0 (a .t2) in
-    (omega arith, (simp length-set (l .inv .1 .0), filled-next 0 (l .small) (grownSets ts 0 (a .t2)) (l .k) (l .inv .1 .1) (c .grown .result) (omega arith) (omega arith) (c .grown .ensures ∙ (ap (grown _) (c .before .tally .ensures) ∙ sym (grown-at ts (a .t2) (l .k) (omega arith))))))
+    let g = length-grown ts (a .t2) in
+    (omega arith, (simp length-set (l .inv .1 .0), filled-next 0 (l .small) (grownSets ts (a .t2)) (l .k) (l .inv .1 .1) (c .grown .result) (omega arith) (omega arith) (c .grown .ensures ∙ (ap (grown _) (c .before .tally .ensures) ∙ sym (grown-at ts (a .t2) (l .k) (omega arith))))))
 
 returns : tie.Need-returns Inv-loop μ-loop
 returns c =
     let l = c .before .loop in
     let a = c .before .before .before .args in
     let ts = kept (transitions (a .b .now)) in
-    let g = length-grown ts 0 (a .t2) in
-    filled-end 0 (l .small) (grownSets ts 0 (a .t2)) (l .k) (l .inv .1 .1) (omega arith) (omega arith)
+    let g = length-grown ts (a .t2) in
+    filled-end 0 (l .small) (grownSets ts (a .t2)) (l .k) (l .inv .1 .1) (omega arith) (omega arith)
 
 pub grown-sets-spec : {M : Type 1} → statement M
 grown-sets-spec =

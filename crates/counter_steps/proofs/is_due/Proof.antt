@@ -1,8 +1,8 @@
 use mathlib.Core.Path.{_∙_}
 use Rattle.counters.specs.Steps.{transition}
 use Rattle.counters.specs.StepLaws.{unchanged, changed}
-use Rattle.counters.specs.Steps.{leavesRow}
-use Rattle.counters.specs.ApplyLaws.{leaves-many, leaves-few}
+use Rattle.counter_steps.specs.Steps.{leavesRow}
+use Rattle.counter_steps.specs.PassLaws.{leaves-many, leaves-few}
 use Rattle.counter_steps.proofs.is_due.Statement.{statement}
 use Rattle.counter_steps.proofs.is_due.Tie as tie
 

@@ -1,6 +1,6 @@
 use mathlib.Core.Path.{sym, ap, _∙_}
 use borrow.Author.Needs.{needs}
-use Rattle.counters.specs.StepLaws.{kind-birth, kind-death, kind-no-rise, kind-rise, kind-no-fall, kind-fall, kind-no-clear, kind-clear}
+use Rattle.counter_steps.specs.KindLaws.{kind-birth, kind-death, kind-no-rise, kind-rise, kind-no-fall, kind-fall, kind-no-clear, kind-clear}
 use borrow.Author.Tests.{not-true, not-false}
 use mathlib.Core.Bool.{not}
 use Rattle.counter_steps.proofs.is_kind.Statement.{statement}

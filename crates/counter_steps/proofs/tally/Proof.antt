@@ -7,7 +7,8 @@ use borrow.Author.Needs.{needs}
 use lib.ListN.{length, drop}
 use Rattle.base.specs.Logic.{keep}
 use Rattle.counters.specs.Batch.{changes, kept}
-use Rattle.counters.specs.Steps.{transitionAt, transitions, ofKind}
+use Rattle.counters.specs.Steps.{transitionAt, transitions}
+use Rattle.counter_steps.specs.Steps.{ofKind}
 use Rattle.counters.specs.StepLaws.{in-batch, from-transition, no-transition, counted, count-none}
 use Rattle.counters.specs.StepLaws.{count-one}
 use Rattle.counter_steps.proofs.tally.Statement.{statement}

@@ -3,7 +3,7 @@ use mathlib.Core.Bool.{Bool, _||_}
 use native.Mathlib.Omega.{arith}
 use borrow.Author.Needs.{needs}
 use Rattle.rows.specs.Table.{rowsOf}
-use Rattle.counters.specs.declared.Kind.the-variants.{Birth, Death, Rise, Fall}
+use Rattle.counter_steps.specs.declared.Kind.the-variants.{Birth, Death, Rise, Fall}
 use Rattle.counters.specs.Layout.{countRow}
 use Rattle.counters.specs.Steps.{transition}
 use Rattle.counter_walk.specs.TurnLaws.{tally-grows, sums-are}

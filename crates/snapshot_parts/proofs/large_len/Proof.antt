@@ -6,7 +6,8 @@ use Prim.Native.Nat.{_+_, _-_, _≤_}
 use native.Mathlib.Omega.{arith}
 use borrow.Author.Needs.{needs}
 use lib.ListN.{length}
-use Rattle.snapshot_parts.specs.PartLaws.{largeFrom, large-length, large-skip, large-end}
+use Rattle.snapshot_parts.specs.PartLaws.{large-length, large-skip, large-end}
+use Rattle.snapshot_parts.specs.Parts.{largeFrom}
 use Rattle.snapshot_parts.proofs.large_len.Statement.{statement}
 use Rattle.snapshot_parts.proofs.large_len.Tie as tie
 

@@ -4,7 +4,8 @@ use mathlib.Core.Path.{_≡_, ap}
 use Prim.Native.Nat.{_+_, _-_, _≤_}
 use native.Mathlib.Omega.{arith}
 use lib.ListN.{length}
-use Rattle.snapshot_parts.specs.PartLaws.{setsFrom, length-set, sets-length, sets-end}
+use Rattle.snapshot_parts.specs.PartLaws.{length-set, sets-length, sets-end}
+use Rattle.snapshot_parts.specs.Parts.{setsFrom}
 use Rattle.snapshot_parts.proofs.sets_len.Statement.{statement}
 use Rattle.snapshot_parts.proofs.sets_len.Tie as tie
 

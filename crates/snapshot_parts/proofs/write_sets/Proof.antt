@@ -9,7 +9,8 @@ use Rattle.rows.specs.Table.{rowsOf}
 use Rattle.roaring_rows.specs.PlaceLaws.{putAt, putAt-none}
 use Rattle.counters.specs.Layout.{countRow}
 use Rattle.snapshot.specs.Write.{setBytes}
-use Rattle.snapshot_parts.specs.PartLaws.{put-next, setsFrom, sets-next, sets-length, sets-end}
+use Rattle.snapshot_parts.specs.PartLaws.{put-next, sets-next, sets-length, sets-end}
+use Rattle.snapshot_parts.specs.Parts.{setsFrom}
 use Rattle.snapshot_parts.proofs.write_sets.Statement.{statement}
 use Rattle.snapshot_parts.proofs.write_sets.Tie as tie
 

@@ -1,7 +1,7 @@
-use mathlib.Core.Path.{subst}
+use mathlib.Core.Path.{subst, sym, _∙_}
 use Prim.Native.Nat.{_/_}
 use Rattle.snapshot_judge.specs.declared.decide.Verdict.the-variants.{Fits, Refused}
-use Rattle.snapshot_judge.specs.Decide.{Decided}
+use Rattle.snapshot_judge.specs.DecideLaws.{Decided, decided}
 use Rattle.snapshot_read.specs.LayLaws.{lay-filled, call-refused, call-laid}
 use Prim.Native.Nat.{_-_}
 use borrow.Author.Needs.{needs}
@@ -28,7 +28,7 @@ lay-requires : tie.Need-lay-requires
 lay-requires c κs =
     let a = c .before .before .before .before .before .before .before .before .before .before .before .args in
     let x = c .before .before .before .before .before .before .v2 .given in
-    let q : Decided (a .s .now) (length (a .t .now) / 2) (Fits (x .0 .0)) = subst (λ r. Decided (a .s .now) (length (a .t .now) / 2) r) (x .1) (c .before .before .before .before .before .before .before .before .decide .ensures) in
+    let q : Decided (a .s .now) (length (a .t .now) / 2) (Fits (x .0 .0)) = subst (λ r. Decided (a .s .now) (length (a .t .now) / 2) r) (sym (c .before .before .before .before .before .before .before .before .decide .ensures) ∙ x .1) (decided (length (a .t .now) / 2) (a .s .now)) in
     lay-filled (a .s .now) (a .t .now) _ (c .before .before .before .fill .ensures) (x .0 .0) (q .plan)
 
 record-of-requires-2 : tie.Need-record-of-requires-2
@@ -38,7 +38,7 @@ returns : tie.Need-returns
 returns c =
     let a = c .before .before .before .before .before .before .before .args in
     let x = c .before .before .v .given in
-    let q : Decided (a .s .now) (length (a .t .now) / 2) (Refused (x .0 .0)) = subst (λ r. Decided (a .s .now) (length (a .t .now) / 2) r) (x .1) (c .before .before .before .before .decide .ensures) in
+    let q : Decided (a .s .now) (length (a .t .now) / 2) (Refused (x .0 .0)) = subst (λ r. Decided (a .s .now) (length (a .t .now) / 2) r) (sym (c .before .before .before .before .decide .ensures) ∙ x .1) (decided (length (a .t .now) / 2) (a .s .now)) in
     rw (c .record-of .ensures) (call-refused (a .s .now) (a .t .now) (x .0 .0) q)
 
 same-length : tie.Need-same-length
@@ -48,7 +48,7 @@ returns-2 : tie.Need-returns-2
 returns-2 c =
     let a = c .before .before .before .before .before .before .before .before .before .before .before .before .before .before .before .args in
     let x = c .before .before .before .before .before .before .before .before .before .before .v2 .given in
-    let q : Decided (a .s .now) (length (a .t .now) / 2) (Fits (x .0 .0)) = subst (λ r. Decided (a .s .now) (length (a .t .now) / 2) r) (x .1) (c .before .before .before .before .before .before .before .before .before .before .before .before .decide .ensures) in
+    let q : Decided (a .s .now) (length (a .t .now) / 2) (Fits (x .0 .0)) = subst (λ r. Decided (a .s .now) (length (a .t .now) / 2) r) (sym (c .before .before .before .before .before .before .before .before .before .before .before .before .decide .ensures) ∙ x .1) (decided (length (a .t .now) / 2) (a .s .now)) in
     call-laid (a .s .now) (a .t .now) _ (c .before .before .before .before .before .before .before .fill .ensures) (x .0 .0) _ _ (c .before .before .before .lay .ensures) (c .record-of2 .ensures) q
 
 pub deserialize-trusted-spec : {M : Type 1} → statement M

@@ -2,11 +2,12 @@ use mathlib.Core.Path.{subst}
 use Rattle.base.specs.Logic.{all, fold, ascendingFrom}
 use Rattle.rows.specs.Table.{tableOf}
 use Rattle.counters.specs.Layout.{countRow}
-use Rattle.snapshot_tiers.specs.TierLaws.{fromIdx, tierOf}
-use Rattle.snapshot_tiers.specs.Heads.{noHead, rawOf, lowerFrom, setAll}
+use Rattle.snapshot_tiers.specs.TierLaws.{fromIdx}
+use Rattle.snapshot_tiers.specs.Heads.{tierOf, noHead, rawOf, lowerFrom, setAll}
 use Rattle.snapshot_tiers.specs.JoinLaws.{Front}
 use Rattle.snapshot_lanes.specs.Lanes.{AllOpen, listsOf}
-use Rattle.snapshot_judge.specs.Judge.{bigOf, front-at, rest-above, start-above, from-zero}
+use Rattle.snapshot_judge.specs.Judge.{bigOf}
+use Rattle.snapshot_judge.specs.JudgeLaws.{front-at, rest-above, start-above, from-zero}
 use Rattle.snapshot_judge.specs.Decide.{countsOf}
 use Rattle.snapshot_read.specs.LayLaws.{lay-start, lay-turn, lay-end, rest-left, found-left, row-left, row-below}
 use mathlib.Core.Path.{_≡_, refl, sym, _∙_}
@@ -95,7 +96,7 @@ add-lo c =
     let p : Front (l .lo) xss big (sh .result) (l .b) (fi .result) =
     front-at bs (l .lo) (rawOf (a .p .large) (drop (a .p .end) bs)) (l .lanes) (sh .result) (l .b) (fi .result) (q .readable .high) (l .inv .3) (sh .ensures) (l .inv .6) (fi .ensures) in
     let h : l .k < length both = omega (arith, q .rows) in
-    omega (arith, q .word, row-below (l .lo) xss big both (sh .result) (l .b) (fi .result) p (l .k) h (l .inv .5) (a .p .next) (q .below))
+    omega (arith, s .good, row-below (l .lo) xss big both (sh .result) (l .b) (fi .result) p (l .k) h (l .inv .5) (a .p .next) (q .below))
 
 add-k : tie.Need-add-k Inv-loop μ-loop
 add-k c = omega arith

@@ -41,8 +41,7 @@ use denote.Triple.Walked.{says, Stays, stay-none, walkOf, goes-none, Walks, ends
 use denote.Triple.Clauses.{ensured, lasts}
 use denote.Exit.{yes}
 use Rattle.counters.specs.declared.CounterMaintenance.{CounterMaintenance}
-use Rattle.counters.specs.Maintenance.{standard}
-use Rattle.counters.specs.MaintenanceLaws.{adjusted}
+use Rattle.counters.specs.Maintenance.{standard, adjusted}
 use Rattle.counters.proofs.CounterMaintenance as T
 use Rattle.counters.proofs.CounterMaintenance.Laws as T′
 use Rattle.counter_loan.proofs.adjust_shrink_threshold as adjust

@@ -54,7 +54,7 @@ use Rattle.counters.proofs.Counters as K
 use Rattle.counters.proofs.Counters.Laws as K′
 use Rattle.counters.proofs.Applied as R
 use Rattle.counters.proofs.Applied.Laws as R′
-use Rattle.counter_walk.specs.Words.{wordsOf}
+use Rattle.counters.specs.Layout.{wordsOf}
 use Rattle.counter_records.proofs.Lent.{tableAt, Owned, Kept, lends, takes-back}
 use Rattle.counter_records.proofs.apply_batch as batch
 use Rattle.counter_records.proofs.apply_batch.Symbol as batch-def

@@ -1,8 +1,8 @@
-use mathlib.Core.Path.{subst}
-use Rattle.base.specs.declared.Refusal.the-variants.{TornSnapshot, BadBitmap}
+use mathlib.Core.Path.{subst, sym, _∙_}
+use Rattle.base.specs.declared.Refusal.the-variants.{Version, TornSnapshot, BadBitmap}
 use Rattle.snapshot_lanes.specs.declared.sets.End.the-variants.{At, Torn, Bad}
-use Rattle.snapshot_lanes.specs.Ends.{Ended}
-use Rattle.snapshot_judge.specs.Decide.{read-none, read-version, read-short, read-refused}
+use Rattle.snapshot_lanes.specs.EndLaws.{Ended, ended}
+use Rattle.snapshot_judge.specs.DecideLaws.{read-none, read-version, read-short, read-refused, verdict-refused}
 use Prim.Native.Nat.{_-_}
 use native.Mathlib.Omega.{arith}
 use borrow.Author.Needs.{needs}
@@ -14,7 +14,7 @@ returns c =
     let s = c .before .before in
     let a = s .args in
     let t = a .s .now in
-    record { outcome = λ base. read-none base (a .room) t (omega arith); plan = tt }
+    verdict-refused (a .room) t TornSnapshot (read-none 0 (a .room) t (omega arith))
 
 shared-slice-read-if2 : tie.Need-shared-slice-read-if2
 shared-slice-read-if2 c = search needs
@@ -24,14 +24,14 @@ returns-2 c =
     let s = c .before .before .before .before in
     let a = s .args in
     let t = a .s .now in
-    record { outcome = λ base. read-version base (a .room) t (omega arith) (λ e. omega arith); plan = tt }
+    verdict-refused (a .room) t Version (read-version 0 (a .room) t (omega arith) (λ e. omega arith))
 
 returns-3 : tie.Need-returns-3
 returns-3 c =
     let s = c .before .before .before .before .before in
     let a = s .args in
     let t = a .s .now in
-    record { outcome = λ base. read-short base (a .room) t (omega arith) (omega arith) (omega arith); plan = tt }
+    verdict-refused (a .room) t TornSnapshot (read-short 0 (a .room) t (omega arith) (omega arith) (omega arith))
 
 sets-end-requires : tie.Need-sets-end-requires
 sets-end-requires c κs = search needs
@@ -45,8 +45,9 @@ decide-large-requires c κs =
     let a = s .args in
     let t = a .s .now in
     let x = c .before .e .given in
-    let e : Ended t 17 (At (x .0 .0)) = subst (λ r. Ended t 17 r) (x .1) (c .before .before .before .sets-end .ensures) in
-    record { long = omega arith; version = omega arith; rest = e .rest; inside = e .inside }
+    let q = sym (c .before .before .before .sets-end .ensures) ∙ x .1 in
+    let e : Ended t 17 (At (x .0 .0)) = subst (λ r. Ended t 17 r) q (ended t 17 (omega arith)) in
+    record { long = omega arith; version = omega arith; ends = q; rest = e .rest; inside = e .inside }
 
 enum-told : tie.Need-enum-told
 enum-told c = search needs
@@ -62,16 +63,16 @@ returns-5 c =
     let s = c .before .before .before .before .before .before .before .before in
     let a = s .args in
     let t = a .s .now in
-    let e : Ended t 17 Torn = subst (λ r. Ended t 17 r) (c .enum-told .given .1) (c .before .before .sets-end .ensures) in
-    record { outcome = λ base. read-refused base (a .room) t (omega arith) (omega arith) TornSnapshot (e .rest); plan = tt }
+    let e : Ended t 17 Torn = subst (λ r. Ended t 17 r) (sym (c .before .before .sets-end .ensures) ∙ c .enum-told .given .1) (ended t 17 (omega arith)) in
+    verdict-refused (a .room) t TornSnapshot (read-refused 0 (a .room) t (omega arith) (omega arith) TornSnapshot (e .rest))
 
 returns-6 : tie.Need-returns-6
 returns-6 c =
     let s = c .before .before .before .before .before .before .before .before in
     let a = s .args in
     let t = a .s .now in
-    let e : Ended t 17 Bad = subst (λ r. Ended t 17 r) (c .enum-told2 .given .1) (c .before .before .sets-end .ensures) in
-    record { outcome = λ base. read-refused base (a .room) t (omega arith) (omega arith) BadBitmap (e .rest); plan = tt }
+    let e : Ended t 17 Bad = subst (λ r. Ended t 17 r) (sym (c .before .before .sets-end .ensures) ∙ c .enum-told2 .given .1) (ended t 17 (omega arith)) in
+    verdict-refused (a .room) t BadBitmap (read-refused 0 (a .room) t (omega arith) (omega arith) BadBitmap (e .rest))
 
 pub decide-spec : {M : Type 1} → statement M
 decide-spec =

@@ -1,10 +1,10 @@
 use mathlib.Core.Path.{subst}
+use Rattle.base.specs.declared.Refusal.the-variants.{TableFull, BadLarge, TierClash}
 use Prim.Native.Nat.{_/_, _%_}
 use Rattle.base.specs.Logic.{any}
-use Rattle.snapshot_tiers.specs.Heads.{rawOf}
-use Rattle.snapshot_tiers.specs.LargeLaws.{low}
+use Rattle.snapshot_tiers.specs.Heads.{low, rawOf}
 use Rattle.snapshot_judge.specs.Judge.{bigOf, smallOf, judgedFrom}
-use Rattle.snapshot_judge.specs.Decide.{nextOf, judged-rows, judged-below, reached-taken, read-ragged, read-low, read-clash, read-full, read-fits}
+use Rattle.snapshot_judge.specs.DecideLaws.{nextOf, judged-rows, reached-taken, read-ragged, read-low, read-clash, read-full, read-fits, verdict-refused, verdict-fits}
 use mathlib.Core.Path.{_≡_, sym, _∙_}
 use mathlib.Core.Bool.{false}
 use Prim.Native.Nat.{_-_}
@@ -22,7 +22,7 @@ returns c =
     let s = c .before .before in
     let a = s .args in
     let t = a .s .now in
-    record { outcome = λ base. read-ragged base (a .room) t (a .end) (s .pre) (omega arith); plan = tt }
+    verdict-refused (a .room) t BadLarge (read-ragged 0 (a .room) t (a .end) (s .pre) (omega arith))
 
 any-low-requires : tie.Need-any-low-requires
 any-low-requires c κs = search needs
@@ -33,7 +33,7 @@ returns-2 c =
     let a = s .args in
     let t = a .s .now in
     let f : (length t - a .end) % 16 ≡ 0 = omega arith in
-    record { outcome = λ base. read-low base (a .room) t (a .end) (s .pre) f (sym (c .before .any-low .ensures) ∙ c .if2 .taken); plan = tt }
+    verdict-refused (a .room) t BadLarge (read-low 0 (a .room) t (a .end) (s .pre) f (sym (c .before .any-low .ensures) ∙ c .if2 .taken))
 
 read-le64-requires : tie.Need-read-le64-requires
 read-le64-requires c κs = search needs
@@ -60,7 +60,7 @@ returns-3 c =
     let j = c .before .judge in
     let q : j .result ≡ judgedFrom 0 (nextOf t) (bigOf t (a .end) ((length t - a .end) / 16)) (smallOf t 17) =
     subst (λ x. j .result ≡ judgedFrom 0 x (bigOf t (a .end) ((length t - a .end) / 16)) (smallOf t 17)) (c .before .before .before .read-le64 .ensures) (j .ensures) in
-    record { outcome = λ base. read-clash base (a .room) t (a .end) (s .pre) f g (j .result) q (c .if3 .taken); plan = tt }
+    verdict-refused (a .room) t TierClash (read-clash 0 (a .room) t (a .end) (s .pre) f g (j .result) q (c .if3 .taken))
 
 returns-4 : tie.Need-returns-4
 returns-4 c =
@@ -72,7 +72,7 @@ returns-4 c =
     let j = c .before .before .judge in
     let q : j .result ≡ judgedFrom 0 (nextOf t) (bigOf t (a .end) ((length t - a .end) / 16)) (smallOf t 17) =
     subst (λ x. j .result ≡ judgedFrom 0 x (bigOf t (a .end) ((length t - a .end) / 16)) (smallOf t 17)) (c .before .before .before .before .read-le64 .ensures) (j .ensures) in
-    record { outcome = λ base. read-full base (a .room) t (a .end) (s .pre) f g (j .result) q (c .before .if3 .left) (omega arith); plan = tt }
+    verdict-refused (a .room) t TableFull (read-full 0 (a .room) t (a .end) (s .pre) f g (j .result) q (c .before .if3 .left) (omega arith))
 
 returns-5 : tie.Need-returns-5
 returns-5 c =
@@ -88,17 +88,8 @@ returns-5 c =
     let r = c .before .before .before .before .read-le64 in
     let v = c .before .before .before .read-le642 in
     let o = c .before .if3 .left in
-    record {
-      outcome = λ base. rw (r .ensures, v .ensures) (read-fits base (a .room) t (a .end) (s .pre) f g (j .result) q o (omega arith));
-      plan =
-          record {
-            readable = record { sets = reached-taken t (a .end) (s .pre); inside = omega (arith, s .pre .inside); high = g };
-            rows = judged-rows (r .result) (bigOf t (a .end) n) (smallOf t 17) (j .result) (j .ensures) o;
-            fits = omega arith;
-            below = judged-below (r .result) (bigOf t (a .end) n) (smallOf t 17) (j .result) (j .ensures) o;
-            word = omega arith;
-          };
-    }
+    let k = judged-rows (r .result) (bigOf t (a .end) n) (smallOf t 17) (j .result) (j .ensures) o in
+    rw (r .ensures, v .ensures, k) (verdict-fits (a .room) t (a .end) (s .pre) _ (read-fits 0 (a .room) t (a .end) (s .pre) f g (j .result) q o (omega arith)))
 
 pub decide-large-spec : {M : Type 1} → statement M
 decide-large-spec =

@@ -1,5 +1,5 @@
 use borrow.Author.Tests.{not-true, not-false}
-use Rattle.snapshot_judge.specs.Judge.{first-large, first-small, first-lower, first-equal}
+use Rattle.snapshot_judge.specs.JudgeLaws.{first-large, first-small, first-lower, first-equal}
 use Prim.Native.Nat.{_-_}
 use native.Mathlib.Omega.{arith}
 use Rattle.snapshot_judge.proofs.judge.first.Statement.{statement}

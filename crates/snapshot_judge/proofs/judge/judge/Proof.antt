@@ -1,11 +1,12 @@
 use borrow.Author.Tests.{not-true, not-false}
 use mathlib.Core.Path.{subst}
 use Rattle.base.specs.Logic.{all, fold, ascendingFrom}
-use Rattle.snapshot_tiers.specs.TierLaws.{fromIdx, tierOf}
-use Rattle.snapshot_tiers.specs.Heads.{noHead, rawOf, lowerFrom, setAll}
+use Rattle.snapshot_tiers.specs.TierLaws.{fromIdx}
+use Rattle.snapshot_tiers.specs.Heads.{tierOf, noHead, rawOf, lowerFrom, setAll}
 use Rattle.snapshot_tiers.specs.JoinLaws.{Front}
 use Rattle.snapshot_lanes.specs.Lanes.{AllOpen, listsOf}
-use Rattle.snapshot_judge.specs.Judge.{bigOf, smallOf, judgedFrom, front-at, rest-above, start-above, start-judged, judged-end, judged-clash, judged-far, judged-next, fewer}
+use Rattle.snapshot_judge.specs.Judge.{bigOf, smallOf, judgedFrom}
+use Rattle.snapshot_judge.specs.JudgeLaws.{front-at, rest-above, start-above, start-judged, judged-end, judged-clash, judged-far, judged-next, fewer}
 use mathlib.Core.Path.{_≡_, sym, _∙_}
 use mathlib.Core.Bool.{true}
 use Prim.Native.Nat.{_+_, _-_, _≤_, _<_}

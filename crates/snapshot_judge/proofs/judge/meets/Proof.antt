@@ -1,5 +1,5 @@
 use borrow.Author.Tests.{not-true, not-false}
-use Rattle.snapshot_judge.specs.Judge.{meet-no-small, meet-no-large, meet-both}
+use Rattle.snapshot_judge.specs.JudgeLaws.{meet-no-small, meet-no-large, meet-both}
 use Prim.Native.Nat.{_-_}
 use Rattle.snapshot_judge.proofs.judge.meets.Statement.{statement}
 use Rattle.snapshot_judge.proofs.judge.meets.Tie as tie

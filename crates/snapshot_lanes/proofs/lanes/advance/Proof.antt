@@ -1,4 +1,4 @@
-use Rattle.snapshot_tiers.specs.TierLaws.{past}
+use Rattle.snapshot_tiers.specs.Heads.{past}
 use Rattle.snapshot_lanes.specs.Lanes.{laneList, AllOpen, listsOf}
 use Rattle.snapshot_lanes.specs.LaneLaws.{map-turn, map-past, open-set, past-done}
 use mathlib.Core.Path.{_≡_, _∙_}

@@ -1,6 +1,6 @@
 use Rattle.snapshot_tiers.specs.Payloads.{setsOf, restAfter, isTaken}
 use Rattle.snapshot_lanes.specs.Lanes.{laneList, AllOpen}
-use Rattle.snapshot_lanes.specs.Ends.{first-of}
+use Rattle.snapshot_lanes.specs.EndLaws.{first-of}
 use Rattle.snapshot_lanes.specs.LaneLaws.{open-same, open-set, open-turn, open-done}
 use mathlib.Core.Path.{_≡_, refl, _∙_}
 use mathlib.Core.List.{_++_, map}

@@ -1,15 +1,15 @@
 use borrow.Author.Tests.{not-true, not-false}
-use Rattle.snapshot_tiers.specs.Payloads.{restAfter}
-use Rattle.snapshot_lanes.specs.Ends.{rest-short, rest-torn, rest-bad, rest-next, rest-end, part-same}
+use Rattle.snapshot_lanes.specs.Ends.{setsEnd}
+use Rattle.snapshot_lanes.specs.EndLaws.{end-short, end-torn, end-bad, end-next, end-done, part-same}
 use mathlib.Core.Path.{_≡_, refl, sym, _∙_}
 use Prim.Native.Nat.{_+_, _-_, _≤_}
 use native.Mathlib.Omega.{arith}
-use lib.ListN.{length, drop}
+use lib.ListN.{length}
 use Rattle.snapshot_lanes.proofs.sets.sets_end.Statement.{statement}
 use Rattle.snapshot_lanes.proofs.sets.sets_end.Tie as tie
 
 abbrev Inv-loop : tie.InvT-loop
-Inv-loop s at p₀ k₀ p k = (k ≤ 8) × (p ≤ length s) × (restAfter (8 - k) (drop p s) ≡ restAfter 8 (drop at s))
+Inv-loop s at p₀ k₀ p k = (k ≤ 8) × (p ≤ length s) × (setsEnd (8 - k) p s ≡ setsEnd 8 at s)
 
 abbrev μ-loop : tie.MeasureT-loop
 μ-loop s at p₀ k₀ p k = 8 - k
@@ -21,7 +21,7 @@ sub-if1 : tie.Need-sub-if1 Inv-loop μ-loop
 sub-if1 c = omega arith
 
 returns : tie.Need-returns Inv-loop μ-loop
-returns c = let a = c .before .before .before .before .args in let l = c .before .before .loop in record { rest = rest-short (a .s .now) (l .p) (8 - l .k) (omega arith) (omega arith) ∙ l .inv .2; inside = omega arith }
+returns c = let a = c .before .before .before .before .args in let l = c .before .before .loop in end-short (a .s .now) (l .p) (8 - l .k) (omega arith) (omega arith) ∙ l .inv .2
 
 read-le64-requires : tie.Need-read-le64-requires Inv-loop μ-loop
 read-le64-requires c κs = omega arith
@@ -33,7 +33,7 @@ sub-if2-2 : tie.Need-sub-if2-2 Inv-loop μ-loop
 sub-if2-2 c = omega arith
 
 returns-2 : tie.Need-returns-2 Inv-loop μ-loop
-returns-2 c = let a = c .before .before .before .before .before .before .args in let l = c .before .before .before .before .loop in let r = c .before .read-le64 in record { rest = rest-torn (a .s .now) (l .p) (8 - l .k) (omega arith) (r .result) (r .ensures) (omega arith) (omega arith) ∙ l .inv .2; inside = omega arith }
+returns-2 c = let a = c .before .before .before .before .before .before .args in let l = c .before .before .before .before .loop in let r = c .before .read-le64 in end-torn (a .s .now) (l .p) (8 - l .k) (omega arith) (r .result) (r .ensures) (omega arith) (omega arith) ∙ l .inv .2
 
 add-q : tie.Need-add-q Inv-loop μ-loop
 add-q c = omega arith
@@ -62,13 +62,9 @@ returns-3 c =
     let l = c .before .before .before .before .before .before .before .loop in
     let r = c .before .before .before .before .read-le64 in
     let i = c .before .is-bitmap64 in
-    record {
-      rest =
-          rest-bad (a .s .now) (l .p) (8 - l .k) (omega arith) (r .result) (r .ensures) (omega arith) (omega arith)
-          (rw (← part-same (a .s .now) (l .p) (r .result)) (sym (i .ensures) ∙ not-true _ (c .if3 .taken)))
-          ∙ l .inv .2;
-      inside = omega arith;
-    }
+    end-bad (a .s .now) (l .p) (8 - l .k) (omega arith) (r .result) (r .ensures) (omega arith) (omega arith)
+    (rw (← part-same (a .s .now) (l .p) (r .result)) (sym (i .ensures) ∙ not-true _ (c .if3 .taken)))
+    ∙ l .inv .2
 
 add-k : tie.Need-add-k Inv-loop μ-loop
 add-k c = omega arith
@@ -86,13 +82,13 @@ loop-again c =
       omega arith,
       omega arith,
       rw (← z)
-          (sym (rest-next (a .s .now) (l .p) (8 - l .k) (omega arith) (r .result) (r .ensures) (omega arith) (omega arith)
+          (sym (end-next (a .s .now) (l .p) (8 - l .k) (omega arith) (r .result) (r .ensures) (omega arith) (omega arith)
           (rw (← part-same (a .s .now) (l .p) (r .result)) (sym (i .ensures) ∙ not-false _ (c .if3 .left))))
           ∙ l .inv .2),
     )
 
 returns-4 : tie.Need-returns-4 Inv-loop μ-loop
-returns-4 c = let a = c .before .before .before .args in let l = c .before .loop in record { rest = rest-end (a .s .now) (l .p) (8 - l .k) (omega arith) ∙ l .inv .2; inside = l .inv .1 }
+returns-4 c = let a = c .before .before .before .args in let l = c .before .loop in end-done (a .s .now) (l .p) (8 - l .k) (omega arith) ∙ l .inv .2
 
 pub sets-end-spec : {M : Type 1} → statement M
 sets-end-spec =

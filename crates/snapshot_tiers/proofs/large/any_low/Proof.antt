@@ -1,6 +1,6 @@
 use Rattle.base.specs.Logic.{any}
-use Rattle.snapshot_tiers.specs.Heads.{rawOf}
-use Rattle.snapshot_tiers.specs.LargeLaws.{low, raw-start, low-found, low-passed, low-none}
+use Rattle.snapshot_tiers.specs.Heads.{low, rawOf}
+use Rattle.snapshot_tiers.specs.LargeLaws.{raw-start, low-found, low-passed, low-none}
 use mathlib.Core.Path.{_≡_, sym, ap, _∙_}
 use Prim.Native.Nat.{_+_, _-_, _*_, _≤_}
 use native.Mathlib.Omega.{arith}

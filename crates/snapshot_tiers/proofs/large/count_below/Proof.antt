@@ -2,7 +2,8 @@ use Prim.Native.Nat.{_/_}
 use Rattle.base.specs.Laws.{ascending-sorted}
 use Rattle.rows.specs.Keys.{place}
 use Rattle.rows.specs.KeyLaws.{place-le, place-up, place-down}
-use Rattle.snapshot_tiers.specs.SortedLaws.{idxsOf, length-idxs, idx-at}
+use Rattle.snapshot_tiers.specs.SortedLaws.{length-idxs, idx-at}
+use Rattle.snapshot_tiers.specs.Heads.{idxsOf}
 use Prim.Native.Nat.{_+_, _-_, _≤_}
 use native.Mathlib.Omega.{arith}
 use lib.ListN.{drop}

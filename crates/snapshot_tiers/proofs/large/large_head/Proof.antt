@@ -1,6 +1,7 @@
 use borrow.Author.Tests.{not-false}
 use Rattle.rows.specs.KeyLaws.{place-le}
-use Rattle.snapshot_tiers.specs.SortedLaws.{idxsOf, length-idxs, sorted-some, sorted-none}
+use Rattle.snapshot_tiers.specs.SortedLaws.{length-idxs, sorted-some, sorted-none}
+use Rattle.snapshot_tiers.specs.Heads.{idxsOf}
 use mathlib.Core.Path.{sym, _∙_}
 use Prim.Native.Nat.{_-_, _≤_}
 use native.Mathlib.Omega.{arith}

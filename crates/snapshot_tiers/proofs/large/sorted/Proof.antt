@@ -1,6 +1,7 @@
 use Rattle.base.specs.Logic.{ascendingFrom}
 use Rattle.rows.specs.KeyLaws.{ascend-start, ascend-next, ascend-not, ascend-end}
-use Rattle.snapshot_tiers.specs.SortedLaws.{idxsOf, length-idxs, idx-at}
+use Rattle.snapshot_tiers.specs.SortedLaws.{length-idxs, idx-at}
+use Rattle.snapshot_tiers.specs.Heads.{idxsOf}
 use mathlib.Core.Path.{_≡_, sym, _∙_}
 use Prim.Native.Nat.{suc, _+_, _-_, _≤_, _<_}
 use native.Mathlib.Omega.{arith}
