@@ -1,9 +1,9 @@
 -- The promises of include/selvaigo.h for records and journals. A refused call on a record leaves zeros for its values and changes no slice. What a
 -- journal's reading can end with: 20 only where the nursery's record isn't lent in 3 words. And what it leaves may be lent to the held forms.
 -- Assumes nothing.
-use Prim.Native.Nat.{ℕ, zero, suc, _+_, _-_, _^_}
+use Prim.Native.Nat.{ℕ, _+_, _-_, _^_}
 use mathlib.Core.Path.{_≡_, refl, ap, subst}
-use mathlib.Core.Logic.{_↔_}
+use mathlib.Core.Logic.{_↔_, inl, inr}
 use mathlib.Core.Bool.{Bool, true, false, not, false≢true}
 use mathlib.Core.Option.{Option, none, some}
 use mathlib.Core.List.{List, [], _∷_}
@@ -26,7 +26,8 @@ use Rattle.cell_nursery.specs.Calls.{lengthWidth, laid}
 use Rattle.format.specs.Payload.{Payload, payloadOf}
 use Rattle.format.specs.Record.{Encoding, Decoding, statsOf, encode, decode}
 use Rattle.format.specs.Calls.{noStats, encodedOut, encodeCall, decodedOf, decodeCall}
-use Rattle.journal.specs.Journal.{readFrom, readJournal, readCall}
+use Rattle.journal.specs.Journal.{End, readJournal, readCall}
+use Rattle.journal.specs.ReadLaws.{record-refused, Stopped, at-end, at-record, reading-ends}
 use Rattle.journal_laws.specs.LoadLaws.{journal-loaded}
 use Rattle.journal_read.specs.RecordLaws.{U8, u8-bytes}
 use Rattle.state_words.specs.WordLaws.{over-nursery}
@@ -85,32 +86,24 @@ module _ (hash : List ℕ → List ℕ) where
     unfolding applyDelta any
     delta-ends s d = one-of (tooLong d) TooLong refl (one-of (present s d) Present refl (one-of (full m s d) NurseryFull refl (refuses-none endNumbers (stateAfter d s))))
 
-    reading-ends : (s : State) (applied place skip : ℕ) (bs : List ℕ) → elem (answerNumber (readFrom hash m s applied place skip bs .ended)) endNumbers ≡ true
-    unfolding readFrom any
-    reading-ends s applied place skip [] = refl
-    reading-ends s applied place (suc skip) (b ∷ bs) = reading-ends s applied place skip bs
-    reading-ends s applied place zero (b ∷ bs) =
-        decoded (λ t n. reading-ends t (suc applied) (place + 40 + n) (39 + n) bs) (decode hash (b ∷ bs)) refl
+    journal-numbers : (bs : List ℕ) → elem (answerNumber (readJournal hash m bs .ended)) endNumbers ≡ true
+    unfolding readJournal any
+    journal-numbers bs = go (reading-ends hash m (λ s place rest. Unit {0}) (λ s t n place rest p e. tt) empty 0 0 bs tt .2)
       where
-        Ends : Type 0
-        Ends = elem (answerNumber (readFrom hash m s applied place zero (b ∷ bs) .ended)) endNumbers ≡ true
-
-        Later : Type 0
-        Later = (t : State) (n : ℕ) → elem (answerNumber (readFrom hash m t (suc applied) (place + 40 + n) (39 + n) bs .ended)) endNumbers ≡ true
-
-        done : Later → (d : Decoding) → decode hash (b ∷ bs) ≡ taken d → (o : Outcome State) → applyDelta m s (d .delta) ≡ o → Ends
-        done later d e (refused q) f = rw (e, f) (delta-ends s (d .delta) q f)
-        done later d e (taken t) f = rw (e, f) (later t (d .stats .«payload_bytes»))
-
-        decoded : Later → (o : Outcome Decoding) → decode hash (b ∷ bs) ≡ o → Ends
-        decoded later (refused q) e = rw e (decode-ends (b ∷ bs) q e)
-        decoded later (taken d) e = done later d e (applyDelta m s (d .delta)) refl
+        go : {e : End} {rest : List ℕ} → Stopped hash m e rest → elem (answerNumber (e .ended)) endNumbers ≡ true
+        go (at-end l i) = rw i
+        go {e} {rest} (at-record r l f i) =
+            rw i
+            (elim (record-refused hash m (e .state) rest r .0 f) [
+              | inl p ↦ decode-ends rest r p
+              | inr (d, p, q) ↦ delta-ends (e .state) (d .delta) r q
+            ])
 
 -- ---- over words: 20 exactly where the nursery's record isn't lent in 3 of them
 module _ (bs w es ws cs : List ℕ) where
   pub journal-ends : length w ≡ 3 → elem (journalSaid bs w es ws cs .answer) endNumbers ≡ true
-  unfolding journalSaid overNursery readInSaid readCall readJournal
-  journal-ends e = rw (eq-eqb (length w) 3 e) (reading-ends blake3.hash (roomOf es ws cs) empty 0 0 0 bs)
+  unfolding journalSaid overNursery readInSaid readCall
+  journal-ends e = rw (eq-eqb (length w) 3 e) (journal-numbers blake3.hash (roomOf es ws cs) bs)
 
   pub journal-broken : (journalSaid bs w es ws cs .answer ≡ 20) ↔ (length w ≡ 3 → ⊥)
   unfolding journalSaid overNursery any
