@@ -25,12 +25,13 @@ use Rattle.cell_nursery.specs.HashLaws.{U64}
 use Rattle.cell_nursery.specs.LayoutLaws.{WellFormed, Held, held, length-entriesTable, length-waitingTable, length-cellsTable, stateOf-laid, holds-laid}
 use Rattle.cell_nursery.specs.EntryLaws.{well-empty, well-after, InRoom, room-after}
 use Rattle.format.specs.Record.{Decoding, decode}
+use Rattle.format.specs.TakenLaws.{taken-lent}
 use Rattle.journal.specs.Journal.{effect, readFrom, readJournal, readCall}
 use Rattle.journal.specs.ReadLaws.{readRest, RecordRefused, record-refused, record-taken, readFrom-taken, readFrom-refused}
 use Rattle.journal_laws.specs.DeltaLaws.{delta-read, delta-fits, taken-accepted}
 use Rattle.journal_read.specs.declared.Step.{Step}
 use Rattle.journal_read.specs.Reading.{Stepped, stepped, beside, recordOn, recordCall, endOn, readOn}
-use Rattle.journal_read.specs.RecordLaws.{U8, u8-drop, u8-part, decode-whole, not-refused}
+use Rattle.journal_read.specs.RecordLaws.{U8, u8-drop, u8-part, not-refused}
 
 -- ---- between two records
 -- a journal that is read on from what a record and tables hold
@@ -95,7 +96,7 @@ module _ (hash : List ℕ → List ℕ) (s : List ℕ) (r₀ : Nursery) (es₀ w
           go (refused y) i f = let n : q .len ≡ 0 = ap (λ (z : Stepped). z .result .len) f in omega arith
           go (taken d) i f =
               let n : q .len ≡ 40 + d .stats .«payload_bytes» = ap (λ (z : Stepped). z .result .len) f in
-              omega (arith, decode-whole rest hash d (u8-drop place s u) i .inside, length-drop place s)
+              omega (arith, taken-lent hash rest d i .inside, length-drop place s)
 
       -- it was refused, or its delta was: nothing changed
       pub stopped : (a : Refusal) → q .answer ≡ Refused a → effect (record { nursery = q .nursery; applied = applied; place = place; ended = q .answer }) es' ws' cs' ≡ readOn hash r₀ es₀ ws₀ cs₀ s
@@ -142,7 +143,7 @@ module _ (hash : List ℕ → List ℕ) (s : List ℕ) (r₀ : Nursery) (es₀ w
               let inserts = d .stats .«insert_ops» in
               let removes = d .stats .«remove_ops» in
               let bytes = u8-drop place s u in
-              let whole = decode-whole rest hash d bytes i in
+              let whole = taken-lent hash rest d i in
               let (ok, same) = taken-accepted (roomOf es ws cs) here (d .delta) t p in
               let read = delta-read 2 inserts removes (take (size - 16) (drop 56 rest)) (d .delta) (u8-part 56 (size - 16) rest bytes) (whole .items) in
               let well : WellFormed t = rw same (well-after (d .delta) here (delta-fits 0 inserts removes (d .delta) (omega arith) read (ok .short) .inserts) (is-held .well)) in
