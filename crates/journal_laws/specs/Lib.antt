@@ -1,7 +1,9 @@
 -- `WaitLaws`: the waiting rows of a nursery that started empty. `DeltaLaws`: what a delta read from bytes fits.
 -- `HoldLaws`: an accepted call leaves tables that hold a state. `ReadLaws`: the reading of a journal that is cut. `LoadLaws`: of one of any bytes.
+-- `EndLaws`: what a reading ends with, exactly when.
 pub mod WaitLaws
 pub mod DeltaLaws
 pub mod HoldLaws
 pub mod ReadLaws
 pub mod LoadLaws
+pub mod EndLaws
