@@ -24,7 +24,7 @@ use Rattle.cell_nursery.specs.Drain.{promotionDelay}
 use Rattle.cell_nursery.specs.Calls as nursery
 use Rattle.delta_items.specs.Walk.{insertsLen, itemsFit, deltaIn}
 use Rattle.delta_items.specs.WalkLaws.{delta-whole, delta-none, length-inserts, length-hashes}
-use Rattle.record_read.specs.DecodeLaws.{payload-short, payload-past, payload-items}
+use Rattle.format.specs.RefusalLaws.{payload-short, payload-past, payload-items}
 use Rattle.node_box.specs.Box.{Call, delta, step, withCounters, withNursery}
 use Rattle.box_items.specs.declared.Ran.{Ran}
 use Rattle.box_items.specs.Items.{allocateItem, wordsIn, batchItem, deltaItem, drainRoom, drainItem, callOf, boxOf, effect, badItem, ran}

@@ -44,7 +44,7 @@ module _ {A : Type 0} (c : Counters) (t : List ℕ) (f : State → Outcome A) wh
   onState-broken h = rw h
 
   -- 20 exactly there, where the operation itself doesn't give it
-  broken-exactly : ((s : State) → f s ≡ refused Broken → ⊥) → (answerOf (onState c t f) ≡ Refused Broken) ↔ (holds c t ≡ false)
+  pub broken-exactly : ((s : State) → f s ≡ refused Broken → ⊥) → (answerOf (onState c t f) ≡ Refused Broken) ↔ (holds c t ≡ false)
   broken-exactly n = go (holds c t) refl
     where
       go : (b : Bool) → holds c t ≡ b → (answerOf (onState c t f) ≡ Refused Broken) ↔ (b ≡ false)

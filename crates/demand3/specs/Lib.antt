@@ -5,7 +5,7 @@
 -- `Outputs`: what the snapshot and the listing of a box are. `Snapshots`, `Listings`: claims 1 and 2.
 -- `Trace`: the journal that a box's calls leave. `Waiting`: every entry waits. `Rebuilding`: claim 3.
 -- Beside it, `Kept`: what is kept of a box that started fresh, by `TableWords`.
--- `Refusals`: the table of refusals over such a box, by `Answered` and `DeltaRefusals`. `DrainRoom`: how much output a drain can take.
+-- `Refusals`: the table of refusals over such a box, by `Answered`. `DrainRoom`: how much output a drain can take.
 pub mod States
 pub mod CountersHeld
 pub mod NurseryHeld
@@ -18,7 +18,6 @@ pub mod Trace
 pub mod Waiting
 pub mod Rebuilding
 pub mod Proof
-pub mod DeltaRefusals
 pub mod Answered
 pub mod Refusals
 pub mod DrainRoom

@@ -1,22 +1,19 @@
 -- The table of refusals over a box that holds its states, as one that started fresh always does: each number exactly under document 01's
 -- condition, and no call refused with another. Broken (20) is only for words that spell no batch and items that run past their bytes.
 -- Assumes nothing.
-use mathlib.Core.Path.{_≡_, refl, sym, ap, _∙_}
+use mathlib.Core.Path.{_≡_, refl, sym, _∙_}
 use mathlib.Core.Logic.{_↔_}
-use mathlib.Core.Bool.{Bool, true, false, false≢true, or-true}
-use mathlib.Core.Option.{Option, none, some}
+use mathlib.Core.Bool.{Bool, true, false, false≢true}
+use mathlib.Core.Option.{none, some}
 use mathlib.Core.List.{List, [], _∷_}
 use Prim.Native.Nat.{ℕ, _/_, _%_, _≤_, _<_}
 use native.Mathlib.Omega.{arith}
 use lib.ListN.{length}
 use lib.Dec.{eqb}
-use borrow.Author.Tests.{eqb-true, eqb-false, eq-eqb}
+use borrow.Author.Tests.{eqb-true, eqb-false}
 use Rattle.base.specs.Logic.{pick, any, elem, max64}
-use Rattle.base.specs.ListLaws.{ltb-lt}
-use Rattle.base.specs.Answers.{Outcome, refused, taken, _>>=_, orRefuse, answerOf, either, numberOf}
-use Rattle.base.specs.OutcomeLaws.{answer-refused, taken-refused, ends-here, Refuses, refuses-none, refuses-step}
+use Rattle.base.specs.Answers.{taken, _>>=_, orRefuse, answerOf, numberOf}
 use Rattle.base.specs.Output.{fitting}
-use Rattle.base.specs.declared.Answer.{Answer}
 use Rattle.base.specs.declared.Answer.the-variants.{Taken, Refused}
 use Rattle.base.specs.declared.Refusal.{Refusal}
 use Rattle.base.specs.declared.Refusal.the-variants.{Spent, Unallocated, Repeated, OffTotal, FalseOld, TableFull, Present, NurseryFull, TooLong, OutputFull, Broken}
@@ -33,12 +30,13 @@ use Rattle.cell_nursery.specs.Items.{Delta, deltaOf}
 use Rattle.cell_nursery.specs.Delta.{Room, applyDelta}
 use Rattle.cell_nursery.specs.Drain.{promotionDelay, drainBytes, listingBytes}
 use Rattle.cell_nursery.specs.Calls.{lengthWidth}
+use Rattle.cell_nursery.specs.AnswerLaws.{exactly, missing-here, missing-numbers, output-full, output-numbers, says, says-numbers}
+use Rattle.cell_nursery.specs.RefusalLaws.{IsLong, IsPresent, IsFull, delta-long, delta-present, delta-full, delta-numbers}
 use Rattle.node_box.specs.Box.{Box, Call, allocate, batch, batchRecords, delta, drain, get, shrink, adjust, measure, serialize, lookup, locate, listing, step, countersOf, nurseryOf}
 use Rattle.node_box.specs.Demand.{History, Typed, end}
 use Rattle.demand3.specs.CountersHeld.{counters-state}
 use Rattle.demand3.specs.NurseryHeld.{roomFor, nursery-state}
 use Rattle.demand3.specs.Holding.{Sizes, Holds, sizesOf, holding}
-use Rattle.demand3.specs.DeltaRefusals.{IsLong, IsPresent, IsFull, delta-long, delta-present, delta-full, delta-numbers}
 use Rattle.demand3.specs.Answered.{answerTo, answer-is}
 
 -- what tables of these lengths have room for
@@ -106,40 +104,6 @@ module _ (z : Sizes) (b : Box) (c : counts.State) (n : entries.State) where
     pub broken : (x : Call) → (step b x .0 ≡ Refused Broken) ↔ Unspelled x
     pub numbers : (x : Call) (q : Refusal) → step b x .0 ≡ Refused q → elem (numberOf q) (numbersOf x) ≡ true
 
--- ---- answers and outcomes
--- an answer that is an outcome's is a refusal exactly where the outcome is
-says : {A P : Type 0} {a : Answer} {r : Refusal} (o : Outcome A) → a ≡ answerOf o → (o ≡ refused r) ↔ P → (a ≡ Refused r) ↔ P
-says {r = r} o e f = (λ q. f .0 (answer-refused o r .0 (sym e ∙ q)), λ p. e ∙ answer-refused o r .1 (f .1 p))
-
-output-full : (out : ℕ) (bs : List ℕ) → (fitting out (taken bs) ≡ refused OutputFull) ↔ (out < length bs)
-unfolding fitting
-output-full out bs = ends-here (ltb-lt out (length bs)) taken-refused
-
-output-numbers : (out : ℕ) (bs : List ℕ) → Refuses (15 ∷ []) (fitting out (taken bs))
-unfolding fitting
-output-numbers out bs = refuses-step OutputFull [] (ltb-lt out (length bs)) (refuses-none [] bs)
-
--- a refusal with a number of the list
-number-in : {A : Type 0} {a : Answer} {q : Refusal} (ns : List ℕ) (o : Outcome A) → Refuses ns o → a ≡ answerOf o → a ≡ Refused q → elem (numberOf q) ns ≡ true
-number-in {q = q} ns o f e p = f q (answer-refused o q .0 (sym e ∙ p))
-
--- an operation on what may be spelled
-module _ {A B : Type 0} (o : Option A) (f : A → Outcome B) (ns : List ℕ) (inner : (a : A) → Refuses ns (f a)) where
-  spelled-numbers : Refuses (20 ∷ ns) (orRefuse Broken o >>= f)
-  unfolding any
-  spelled-numbers q = go o
-    where
-      go : (p : Option A) → (orRefuse Broken p >>= f) ≡ refused q → elem (numberOf q) (20 ∷ ns) ≡ true
-      go none e = let same : numberOf q ≡ 20 = sym (ap (either numberOf (λ x. 0)) e) in rw (eq-eqb (numberOf q) 20 same)
-      go (some a) e = rw (inner a q e) (or-true (eqb (numberOf q) 20))
-
-  spelled-broken : elem 20 ns ≡ false → ((orRefuse Broken o >>= f) ≡ refused Broken) ↔ (o ≡ none)
-  spelled-broken other = go o
-    where
-      go : (p : Option A) → ((orRefuse Broken p >>= f) ≡ refused Broken) ↔ (p ≡ none)
-      go none = (λ e. refl, λ e. refl)
-      go (some a) = (λ e. absurd (false≢true (sym other ∙ inner a Broken e)), λ e. let x : _≡_ {A = ℕ} 0 1 = cc in absurd (omega arith))
-
 -- words spell no batch exactly where they are ragged
 ragged : (words : List ℕ) → (batchOf words ≡ none) ↔ (¬ (length words % 3 ≡ 0))
 unfolding batchOf
@@ -184,24 +148,24 @@ module _ {z : Sizes} {b : Box} {c : counts.State} {n : entries.State} (h : Holds
       never p = let y : _≡_ {A = ℕ} 0 1 = cc in omega arith
 
       go : (y : Call) → answerTo z c n y ≡ Refused q → elem (numberOf q) (numbersOf y) ≡ true
-      go allocate p = number-in (1 ∷ []) (counts.allocate (c .next)) (allocate-numbers (c .next)) refl p
+      go allocate p = says-numbers (1 ∷ []) (counts.allocate (c .next)) refl (allocate-numbers (c .next)) q p
       go (batch words) p =
-          number-in (20 ∷ 2 ∷ 3 ∷ 5 ∷ 4 ∷ 6 ∷ []) (orRefuse Broken (batchOf words) >>= applyBatch (z .counts / 2) c)
-          (spelled-numbers (batchOf words) (applyBatch (z .counts / 2) c) (2 ∷ 3 ∷ 5 ∷ 4 ∷ 6 ∷ []) (λ ts. batch-numbers (z .counts / 2) c ts)) refl p
-      go (batchRecords ts) p = number-in (2 ∷ 3 ∷ 5 ∷ 4 ∷ 6 ∷ []) (applyBatch (z .counts / 2) c ts) (batch-numbers (z .counts / 2) c ts) refl p
+          says-numbers (20 ∷ 2 ∷ 3 ∷ 5 ∷ 4 ∷ 6 ∷ []) (orRefuse Broken (batchOf words) >>= applyBatch (z .counts / 2) c) refl
+          (missing-numbers Broken (batchOf words) (applyBatch (z .counts / 2) c) (2 ∷ 3 ∷ 5 ∷ 4 ∷ 6 ∷ []) (λ ts. batch-numbers (z .counts / 2) c ts)) q p
+      go (batchRecords ts) p = says-numbers (2 ∷ 3 ∷ 5 ∷ 4 ∷ 6 ∷ []) (applyBatch (z .counts / 2) c ts) refl (batch-numbers (z .counts / 2) c ts) q p
       go (delta id wide inserts removes items) p =
           let spelled = deltaOf (lengthWidth wide) inserts removes items in
-          number-in (20 ∷ 14 ∷ 12 ∷ 13 ∷ []) (orRefuse Broken spelled >>= applyDelta (roomIn z) n)
-          (spelled-numbers spelled (applyDelta (roomIn z) n) (14 ∷ 12 ∷ 13 ∷ []) (λ d. delta-numbers (roomIn z) n d)) refl p
-      go (drain round out) p = let bs = drainBytes promotionDelay round n in number-in (15 ∷ []) (fitting out (taken bs)) (output-numbers out bs) refl p
-      go (get idx) p = number-in (2 ∷ []) (counts.get c idx) (get-numbers c idx) refl p
+          says-numbers (20 ∷ 14 ∷ 12 ∷ 13 ∷ []) (orRefuse Broken spelled >>= applyDelta (roomIn z) n) refl
+          (missing-numbers Broken spelled (applyDelta (roomIn z) n) (14 ∷ 12 ∷ 13 ∷ []) (λ d. delta-numbers (roomIn z) n d)) q p
+      go (drain round out) p = let bs = drainBytes promotionDelay round n in says-numbers (15 ∷ []) (fitting out (taken bs)) refl (output-numbers out bs) q p
+      go (get idx) p = says-numbers (2 ∷ []) (counts.get c idx) refl (get-numbers c idx) q p
       go (shrink saved) p = absurd (never p)
       go (adjust saved) p = absurd (never p)
       go measure p = absurd (never p)
-      go (serialize out) p = number-in (15 ∷ []) (fitting out (taken (snapshotBytes c))) (output-numbers out (snapshotBytes c)) refl p
+      go (serialize out) p = says-numbers (15 ∷ []) (fitting out (taken (snapshotBytes c))) refl (output-numbers out (snapshotBytes c)) q p
       go (lookup hash) p = absurd (never p)
       go (locate hash) p = absurd (never p)
-      go (listing out) p = let bs = listingBytes (n .entries) in number-in (15 ∷ []) (fitting out (taken bs)) (output-numbers out bs) refl p
+      go (listing out) p = let bs = listingBytes (n .entries) in says-numbers (15 ∷ []) (fitting out (taken bs)) refl (output-numbers out bs) q p
 
   -- 20 only where nothing is spelled
   call-broken : (x : Call) → (step b x .0 ≡ Refused Broken) ↔ Unspelled x
@@ -209,13 +173,13 @@ module _ {z : Sizes} {b : Box} {c : counts.State} {n : entries.State} (h : Holds
   call-broken allocate = (λ e. absurd (false≢true (call-numbers allocate Broken e)), λ u. absurd u)
   call-broken (batch words) =
       let o = orRefuse Broken (batchOf words) >>= applyBatch (z .counts / 2) c in
-      let none-spelled = spelled-broken (batchOf words) (applyBatch (z .counts / 2) c) (2 ∷ 3 ∷ 5 ∷ 4 ∷ 6 ∷ []) (λ ts. batch-numbers (z .counts / 2) c ts) refl in
-      says o (answer-is h (batch words)) ((λ e. ragged words .0 (none-spelled .0 e)), λ u. none-spelled .1 (ragged words .1 u))
+      let none-spelled = missing-here Broken (batchOf words) (applyBatch (z .counts / 2) c) (λ ts e. false≢true (batch-numbers (z .counts / 2) c ts Broken e)) in
+      says o (answer-is h (batch words)) (exactly none-spelled (ragged words))
   call-broken (batchRecords ts) = (λ e. absurd (false≢true (call-numbers (batchRecords ts) Broken e)), λ u. absurd u)
   call-broken (delta id wide inserts removes items) =
       let spelled = deltaOf (lengthWidth wide) inserts removes items in
       says (orRefuse Broken spelled >>= applyDelta (roomIn z) n) (answer-is h (delta id wide inserts removes items))
-      (spelled-broken spelled (applyDelta (roomIn z) n) (14 ∷ 12 ∷ 13 ∷ []) (λ d. delta-numbers (roomIn z) n d) refl)
+      (missing-here Broken spelled (applyDelta (roomIn z) n) (λ d e. false≢true (delta-numbers (roomIn z) n d Broken e)))
   call-broken (drain round out) = (λ e. absurd (false≢true (call-numbers (drain round out) Broken e)), λ u. absurd u)
   call-broken (get idx) = (λ e. absurd (false≢true (call-numbers (get idx) Broken e)), λ u. absurd u)
   call-broken (shrink saved) = (λ e. absurd (false≢true (call-numbers (shrink saved) Broken e)), λ u. absurd u)

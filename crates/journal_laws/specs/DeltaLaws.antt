@@ -71,7 +71,7 @@ pub le-bytes : (k : ℕ) (bs : List ℕ) → Bytes bs → Gives (λ y. (y .0 < 2
 unfolding readLe
 le-bytes k bs b = gives-bind (cut-bytes k bs b) (λ y p. gives (rw (p .0) at (number-below 256 (y .0) (p .1)), p .2))
 
-hash-bytes : (bs : List ℕ) → Bytes bs → Gives (λ y. (ltb (y .0) (2 ^ 256) ≡ true) × Bytes (y .1)) (readHash bs)
+pub hash-bytes : (bs : List ℕ) → Bytes bs → Gives (λ y. (ltb (y .0) (2 ^ 256) ≡ true) × Bytes (y .1)) (readHash bs)
 unfolding readHash
 hash-bytes bs b =
     gives-bind (cut-bytes 32 bs b) (λ y p.
@@ -96,7 +96,7 @@ insert-bytes w bs b =
     gives-bind (cut-bytes (n .0) (n .1) (t .1)) (λ c u.
     gives (rw (p .0, lt-ltb (i .0) (2 ^ 64) (q .0), lt-ltb (r .0) (2 ^ 32) (s .0)) (u .1), u .2))))))
 
-list-bytes : {A : Type 0} (f : List ℕ → Option (A × List ℕ)) (ok : A → Bool) → ((bs : List ℕ) → Bytes bs → Gives (λ y. (ok (y .0) ≡ true) × Bytes (y .1)) (f bs))
+pub list-bytes : {A : Type 0} (f : List ℕ → Option (A × List ℕ)) (ok : A → Bool) → ((bs : List ℕ) → Bytes bs → Gives (λ y. (ok (y .0) ≡ true) × Bytes (y .1)) (f bs))
     → (n : ℕ) (bs : List ℕ) → Bytes bs → Gives (λ y. (length (y .0) ≡ n) × (all ok (y .0) ≡ true) × Bytes (y .1)) (readList f n bs)
 unfolding readList all
 list-bytes f ok h zero bs b = gives (refl, refl, b)

@@ -1,6 +1,8 @@
 -- `DeltaLaws`: what a delta read from bytes fits.
 -- `HoldLaws`: an accepted call leaves tables that hold a state. `ReadLaws`: the reading of a journal that is cut. `LoadLaws`: of one of any bytes.
+-- `EndLaws`: what a reading ends with, exactly when.
 pub mod DeltaLaws
 pub mod HoldLaws
 pub mod ReadLaws
 pub mod LoadLaws
+pub mod EndLaws

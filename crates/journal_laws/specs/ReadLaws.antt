@@ -1,33 +1,33 @@
 -- A journal of accepted deltas' records, cut after any byte, is read up to the last whole record: what was applied, where, and how it ended.
 -- Assumes nothing.
 use mathlib.Core.Path.{_≡_, refl, ap, _∙_}
+use mathlib.Core.Logic.{inl}
 use mathlib.Core.Bool.{Bool, true, false}
 use mathlib.Core.List.{List, [], _∷_, _++_}
 use Prim.Native.Nat.{ℕ, zero, suc, _+_, _-_, _≤_, _<_}
 use native.Mathlib.Nat.{add-zero, zero-add}
 use native.Mathlib.Omega.{arith}
 use native.Mathlib.Decide.{decLe, ℕ-discrete}
-use lib.ListN.{length, take, drop, length-append}
+use lib.ListN.{length, take, length-append}
 use lib.Seq.{take-append-add, take-append-le, drop-at, length-take-le}
 use lib.Dec.{leb, eqb}
 use borrow.Author.Tests.{le-leb, lt-leb, eq-eqb, ne-eqb}
 use Rattle.base.specs.Logic.{pick, flat, fold}
 use Rattle.base.specs.Laws.{length-digits}
-use Rattle.base.specs.Answers.{refused, taken}
-use Rattle.base.specs.declared.Refusal.{Refusal}
 use Rattle.base.specs.declared.Refusal.the-variants.{ShortRecord}
 use Rattle.base.specs.declared.Answer.{Answer}
 use Rattle.base.specs.declared.Answer.the-variants.{Taken, Refused}
 use Rattle.cell_nursery.specs.Entries.{State, empty}
 use Rattle.cell_nursery.specs.Items.{Delta}
-use Rattle.cell_nursery.specs.Delta.{Room, present, full, stateAfter, applyDelta}
+use Rattle.cell_nursery.specs.Delta.{Room, present, full, stateAfter}
 use Rattle.cell_nursery.specs.WaitLaws.{Waits, none-gone, waits-after}
 use Rattle.cell_nursery.specs.LayoutLaws.{WellFormed}
 use Rattle.cell_nursery.specs.EntryLaws.{well-after, InRoom, room-after}
 use Rattle.format.specs.Payload.{payloadBytes}
-use Rattle.format.specs.Record.{Decoding, statsOf, hashed, recordBytes, decode}
+use Rattle.format.specs.Record.{statsOf, hashed, recordBytes}
 use Rattle.format.specs.RecordLaws.{Fits, decode-whole, decode-cut}
-use Rattle.journal.specs.Journal.{End, readFrom, readJournal, readFrom-taken, readFrom-refused}
+use Rattle.journal.specs.Journal.{End, readFrom, readJournal}
+use Rattle.journal.specs.ReadLaws.{record-refused, record-taken, readRest, readFrom-taken, readFrom-refused}
 use Rattle.journal_laws.specs.DeltaLaws.{Accepted, accepted-taken}
 
 -- a delta that a nursery accepts is accepted by one with the same entries, whichever of them wait
@@ -41,18 +41,6 @@ endOf n k = pick (eqb n k) Taken (Refused ShortRecord)
 
 end-later : (b n k : ℕ) → b ≤ k → endOf n (k - b) ≡ endOf (b + n) k
 end-later b n k h = elim (ℕ-discrete n (k - b)) [ yes e ↦ rw (eq-eqb n (k - b) e, eq-eqb (b + n) k (omega arith)) | no e ↦ rw (ne-eqb n (k - b) e, ne-eqb (b + n) k (λ q. e (omega arith))) ]
-
--- ---- a record at the start of what is left
-module _ (hash : List ℕ → List ℕ) (m : Room) (s : State) (applied place : ℕ) where
-  next-taken : (t : State) (d : Decoding) (l : List ℕ) → 0 < length l → decode hash l ≡ taken d → applyDelta m s (d .delta) ≡ taken t
-      → readFrom hash m s applied place 0 l ≡ readFrom hash m t (suc applied) (place + 40 + d .stats .«payload_bytes») 0 (drop (40 + d .stats .«payload_bytes») l)
-  next-taken t d [] h p q = absurd (omega arith)
-  next-taken t d (b ∷ bs) h p q = readFrom-taken hash m s t applied place b bs d p q
-
-  next-refused : (r : Refusal) (l : List ℕ) → 0 < length l → decode hash l ≡ refused r
-      → readFrom hash m s applied place 0 l ≡ record { state = s; applied = applied; place = place; ended = Refused r }
-  next-refused r [] h p = absurd (omega arith)
-  next-refused r (b ∷ bs) h p = readFrom-refused hash m s applied place b bs r p
 
 -- ---- items that carry an id and a delta, of which records are made
 module _ (hash : List ℕ → List ℕ) {A : Type 0} (id : A → ℕ) (delta : A → Delta) where
@@ -118,25 +106,24 @@ module _ (hash : List ℕ → List ℕ) {A : Type 0} (id : A → ℕ) (delta : A
 
       -- a whole record, and what is left behind it
       read-whole : (s : State) (x : A) (rest : List ℕ) (applied place : ℕ) → Fits (id x) (delta x) → Accepted m s (delta x)
-          → readFrom hash m s applied place 0 (bytesOf x ++ rest) ≡ readFrom hash m (stateAfter (delta x) s) (suc applied) (place + length (bytesOf x)) 0 rest
+          → readRest hash m s applied place (bytesOf x ++ rest) ≡ readRest hash m (stateAfter (delta x) s) (suc applied) (place + length (bytesOf x)) rest
       unfolding statsOf
       read-whole s x rest applied place f a =
           let n : ℕ = length (payloadBytes (id x) (delta x)) in
           let l = length-bytes x in
-          let q : place + 40 + n ≡ place + length (bytesOf x) = omega arith in
-          next-taken hash m s applied place (stateAfter (delta x) s) _ (bytesOf x ++ rest) (simp length-append (omega arith))
-          (decode-whole hash long (id x) (delta x) f rest) (accepted-taken m s (delta x) a)
-          ∙ rw (q, drop-at (bytesOf x) rest (40 + n) l)
+          let whole = record-taken hash m s (bytesOf x ++ rest) (stateAfter (delta x) s) n .1 (_, decode-whole hash long (id x) (delta x) f rest, accepted-taken m s (delta x) a, refl) in
+          readFrom-taken hash m s applied place (stateAfter (delta x) s) n (bytesOf x ++ rest) (simp length-append (omega arith)) whole
+          ∙ rw (← l, drop-at (bytesOf x) rest (length (bytesOf x)) refl)
 
       -- a record that is cut
       read-short : (s : State) (x : A) (applied place k : ℕ) → Fits (id x) (delta x) → k < length (bytesOf x)
-          → readFrom hash m s applied place 0 (take k (bytesOf x)) ≡ record { state = s; applied = applied; place = place; ended = endOf 0 k }
+          → readRest hash m s applied place (take k (bytesOf x)) ≡ record { state = s; applied = applied; place = place; ended = endOf 0 k }
       unfolding readFrom
       read-short s x applied place zero f l = refl
       read-short s x applied place (suc k) f l =
           rw (ne-eqb 0 (suc k) (omega arith))
-          (next-refused hash m s applied place ShortRecord (take (suc k) (bytesOf x)) (rw (length-take-le (suc k) (bytesOf x) (omega arith)) (omega arith))
-          (decode-cut hash long (id x) (delta x) f (suc k) l))
+          (readFrom-refused hash m s applied place ShortRecord (take (suc k) (bytesOf x)) (rw (length-take-le (suc k) (bytesOf x) (omega arith)) (omega arith))
+          (record-refused hash m s (take (suc k) (bytesOf x)) ShortRecord .1 (inl (decode-cut hash long (id x) (delta x) f (suc k) l))))
 
       one-more : (s : State) (x : A) (ws : List A) (applied place k : ℕ) → length (bytesOf x) ≤ k
           → ending (stateAfter (delta x) s) (suc applied) (place + length (bytesOf x)) (k - length (bytesOf x)) ws ≡ ending s applied place k (x ∷ ws)
@@ -154,7 +141,7 @@ module _ (hash : List ℕ → List ℕ) {A : Type 0} (id : A → ℕ) (delta : A
 
       -- of the first k bytes exactly the whole records are applied
       pub read-cut : {s : State} {xs : List A} → Applies s xs → (applied place k : ℕ) → k ≤ length (flat bytesOf xs)
-          → readFrom hash m s applied place 0 (take k (flat bytesOf xs)) ≡ ending s applied place k (wholeIn k xs)
+          → readRest hash m s applied place (take k (flat bytesOf xs)) ≡ ending s applied place k (wholeIn k xs)
       unfolding flat wholeIn readFrom
       read-cut (done {s = s}) applied place k h = let z : k ≡ 0 = omega arith in rw z (none-more s applied place 0)
       read-cut (more {s = s} {x = x} {xs = xs} f a r) applied place k h =

@@ -1,9 +1,10 @@
 -- Records read in turn: what holds of the tables between two of them, and how the reading ends.
 -- Assumes nothing.
 use mathlib.Core.Path.{_≡_, refl, sym, ap, _∙_}
+use mathlib.Core.Logic.{inl, inr}
 use mathlib.Core.Bool.{true}
-use mathlib.Core.List.{List, [], _∷_}
-use Prim.Native.Nat.{ℕ, suc, _+_, _-_, _/_, _≤_, _<_, min}
+use mathlib.Core.List.{List}
+use Prim.Native.Nat.{ℕ, _+_, _-_, _/_, _≤_, _<_, min}
 use native.Mathlib.Numerals.{add-one}
 use native.Mathlib.Omega.{arith}
 use lib.ListN.{length, take, drop, length-drop}
@@ -16,7 +17,7 @@ use Rattle.base.specs.declared.Answer.the-variants.{Taken, Refused}
 use Rattle.cell_nursery.specs.declared.Nursery.{Nursery}
 use Rattle.cell_nursery.specs.declared.Committed.{Committed}
 use Rattle.cell_nursery.specs.Entries.{State, empty, cellBytes}
-use Rattle.cell_nursery.specs.Delta.{Room, applyDelta}
+use Rattle.cell_nursery.specs.Delta.{applyDelta}
 use Rattle.cell_nursery.specs.Layout.{recordOf, entriesTable, waitingTable, cellsTable, roomOf, stateOf, holds}
 use Rattle.cell_nursery.specs.Calls as nursery
 use Rattle.cell_nursery.specs.Calls.{Changed, laid, laidOut, newCall}
@@ -24,30 +25,13 @@ use Rattle.cell_nursery.specs.HashLaws.{U64}
 use Rattle.cell_nursery.specs.LayoutLaws.{WellFormed, Held, held, length-entriesTable, length-waitingTable, length-cellsTable, stateOf-laid, holds-laid}
 use Rattle.cell_nursery.specs.EntryLaws.{well-empty, well-after, InRoom, room-after}
 use Rattle.format.specs.Record.{Decoding, decode}
-use Rattle.journal.specs.Journal.{effect, readFrom, readJournal, readCall, readFrom-taken, readFrom-refused}
+use Rattle.format.specs.TakenLaws.{taken-lent}
+use Rattle.journal.specs.Journal.{effect, readFrom, readJournal, readCall}
+use Rattle.journal.specs.ReadLaws.{readRest, RecordRefused, record-refused, record-taken, readFrom-taken, readFrom-refused}
 use Rattle.journal_laws.specs.DeltaLaws.{delta-read, delta-fits, taken-accepted}
 use Rattle.journal_read.specs.declared.Step.{Step}
 use Rattle.journal_read.specs.Reading.{Stepped, stepped, beside, recordOn, recordCall, endOn, readOn}
-use Rattle.journal_read.specs.RecordLaws.{U8, u8-drop, u8-part, decode-whole, not-refused}
-
--- ---- the record at the start of what is left
-module _ (hash : List ℕ → List ℕ) (m : Room) (s : State) (applied place : ℕ) where
-  next-taken : (t : State) (d : Decoding) (l : List ℕ) → 0 < length l → decode hash l ≡ taken d → applyDelta m s (d .delta) ≡ taken t
-      → readFrom hash m s applied place 0 l ≡ readFrom hash m t (suc applied) (place + 40 + d .stats .«payload_bytes») 0 (drop (40 + d .stats .«payload_bytes») l)
-  next-taken t d [] h p q = absurd (omega arith)
-  next-taken t d (b ∷ bs) h p q = readFrom-taken hash m s t applied place b bs d p q
-
-  next-refused : (x : Refusal) (l : List ℕ) → 0 < length l → decode hash l ≡ refused x
-      → readFrom hash m s applied place 0 l ≡ record { state = s; applied = applied; place = place; ended = Refused x }
-  next-refused x [] h p = absurd (omega arith)
-  next-refused x (b ∷ bs) h p = readFrom-refused hash m s applied place b bs x p
-
-  -- a delta that is refused ends the reading too
-  delta-ends : (x : Refusal) (d : Decoding) (l : List ℕ) → 0 < length l → decode hash l ≡ taken d → applyDelta m s (d .delta) ≡ refused x
-      → readFrom hash m s applied place 0 l ≡ record { state = s; applied = applied; place = place; ended = Refused x }
-  unfolding readFrom
-  delta-ends x d [] h p q = absurd (omega arith)
-  delta-ends x d (b ∷ bs) h p q = rw (p, q)
+use Rattle.journal_read.specs.RecordLaws.{U8, u8-drop, u8-part, not-refused}
 
 -- ---- between two records
 -- a journal that is read on from what a record and tables hold
@@ -62,7 +46,7 @@ module _ (hash : List ℕ → List ℕ) (s : List ℕ) (r₀ : Nursery) (es₀ w
     pub size-cs : length cs ≡ length cs₀
     pub inside : place ≤ length s
     pub counted : applied ≤ place
-    pub leads : readFrom hash (roomOf es₀ ws₀ cs₀) (stateOf r es ws cs) applied place 0 (drop place s) ≡ readFrom hash (roomOf es₀ ws₀ cs₀) (stateOf r₀ es₀ ws₀ cs₀) 0 0 0 s
+    pub leads : readRest hash (roomOf es₀ ws₀ cs₀) (stateOf r es ws cs) applied place (drop place s) ≡ readRest hash (roomOf es₀ ws₀ cs₀) (stateOf r₀ es₀ ws₀ cs₀) 0 0 s
 
   -- a record of n bytes was applied
   pub record Applied (r : Nursery) (n : ℕ) (es ws cs : List ℕ) (applied place : ℕ) : Type 0 where
@@ -81,7 +65,7 @@ module _ (hash : List ℕ → List ℕ) (s : List ℕ) (r₀ : Nursery) (es₀ w
     room-same = rw (x .size-es, x .size-ws, x .size-cs)
 
     -- the reading ends here
-    closed : (a : Answer) → readFrom hash (roomOf es₀ ws₀ cs₀) here applied place 0 (drop place s) ≡ record { state = here; applied = applied; place = place; ended = a }
+    closed : (a : Answer) → readRest hash (roomOf es₀ ws₀ cs₀) here applied place (drop place s) ≡ record { state = here; applied = applied; place = place; ended = a }
         → effect (record { nursery = r; applied = applied; place = place; ended = a }) es ws cs ≡ readOn hash r₀ es₀ ws₀ cs₀ s
     unfolding readOn endOn laid
     closed a e =
@@ -112,7 +96,7 @@ module _ (hash : List ℕ → List ℕ) (s : List ℕ) (r₀ : Nursery) (es₀ w
           go (refused y) i f = let n : q .len ≡ 0 = ap (λ (z : Stepped). z .result .len) f in omega arith
           go (taken d) i f =
               let n : q .len ≡ 40 + d .stats .«payload_bytes» = ap (λ (z : Stepped). z .result .len) f in
-              omega (arith, decode-whole rest hash d (u8-drop place s u) i .inside, length-drop place s)
+              omega (arith, taken-lent hash rest d i .inside, length-drop place s)
 
       -- it was refused, or its delta was: nothing changed
       pub stopped : (a : Refusal) → q .answer ≡ Refused a → effect (record { nursery = q .nursery; applied = applied; place = place; ended = q .answer }) es' ws' cs' ≡ readOn hash r₀ es₀ ws₀ cs₀ s
@@ -120,7 +104,7 @@ module _ (hash : List ℕ → List ℕ) (s : List ℕ) (r₀ : Nursery) (es₀ w
       stopped a ended = go (decode hash rest) refl on-rest
         where
           as-before : (k : ℕ) (y : Refusal) → stepped q es' ws' cs' ≡ beside k (laidOut r es ws cs (refused y))
-              → readFrom hash (roomOf es₀ ws₀ cs₀) here applied place 0 rest ≡ record { state = here; applied = applied; place = place; ended = Refused y }
+              → readRest hash (roomOf es₀ ws₀ cs₀) here applied place rest ≡ record { state = here; applied = applied; place = place; ended = Refused y }
               → effect (record { nursery = q .nursery; applied = applied; place = place; ended = q .answer }) es' ws' cs' ≡ readOn hash r₀ es₀ ws₀ cs₀ s
           as-before k y f l =
               rw (
@@ -132,15 +116,19 @@ module _ (hash : List ℕ → List ℕ) (s : List ℕ) (r₀ : Nursery) (es₀ w
               )
               (closed (Refused y) l)
 
+          ends : (y : Refusal) → RecordRefused hash (roomOf es₀ ws₀ cs₀) here rest y
+              → readRest hash (roomOf es₀ ws₀ cs₀) here applied place rest ≡ record { state = here; applied = applied; place = place; ended = Refused y }
+          ends y p = readFrom-refused hash (roomOf es₀ ws₀ cs₀) here applied place y rest some-left (record-refused hash (roomOf es₀ ws₀ cs₀) here rest y .1 p)
+
           after : (d : Decoding) (o : Outcome State) → decode hash rest ≡ taken d → applyDelta (roomOf es ws cs) here (d .delta) ≡ o
               → stepped q es' ws' cs' ≡ beside (40 + d .stats .«payload_bytes») (laidOut r es ws cs o)
               → effect (record { nursery = q .nursery; applied = applied; place = place; ended = q .answer }) es' ws' cs' ≡ readOn hash r₀ es₀ ws₀ cs₀ s
-          after d (refused y) i p f = as-before (40 + d .stats .«payload_bytes») y f (delta-ends hash (roomOf es₀ ws₀ cs₀) here applied place y d rest some-left i (rw room-same at p))
+          after d (refused y) i p f = as-before (40 + d .stats .«payload_bytes») y f (ends y (inr (d, i, rw room-same at p)))
           after d (taken t) i p f = absurd (not-refused (sym (ap (λ (z : Stepped). z .result .answer) f) ∙ ended))
 
           go : (o : Outcome Decoding) → decode hash rest ≡ o → stepped q es' ws' cs' ≡ recordOn r es ws cs o
               → effect (record { nursery = q .nursery; applied = applied; place = place; ended = q .answer }) es' ws' cs' ≡ readOn hash r₀ es₀ ws₀ cs₀ s
-          go (refused y) i f = as-before 0 y f (next-refused hash (roomOf es₀ ws₀ cs₀) here applied place y rest some-left i)
+          go (refused y) i f = as-before 0 y f (ends y (inl i))
           go (taken d) i f = after d (applyDelta (roomOf es ws cs) here (d .delta)) i refl f
 
       -- it was applied
@@ -155,14 +143,13 @@ module _ (hash : List ℕ → List ℕ) (s : List ℕ) (r₀ : Nursery) (es₀ w
               let inserts = d .stats .«insert_ops» in
               let removes = d .stats .«remove_ops» in
               let bytes = u8-drop place s u in
-              let whole = decode-whole rest hash d bytes i in
+              let whole = taken-lent hash rest d i in
               let (ok, same) = taken-accepted (roomOf es ws cs) here (d .delta) t p in
               let read = delta-read 2 inserts removes (take (size - 16) (drop 56 rest)) (d .delta) (u8-part 56 (size - 16) rest bytes) (whole .items) in
               let well : WellFormed t = rw same (well-after (d .delta) here (delta-fits 0 inserts removes (d .delta) (omega arith) read (ok .short) .inserts) (ok .new) (is-held .well)) in
               let fit : InRoom (min (length es / 8) (length ws / 5)) (length cs) t = rw same (room-after (roomOf es ws cs) (d .delta) here (ok .fits)) in
               let state-same : stateOf (q .nursery) es' ws' cs' ≡ t = rw (a, f, g, h) (stateOf-laid t (length es) (length ws) (length cs) well (fit .rows-fit) (fit .bytes-fit)) in
-              let turn = next-taken hash (roomOf es₀ ws₀ cs₀) here applied place t d rest some-left i (rw room-same at p) in
-              let k : place + (40 + size) ≡ place + 40 + size = omega arith in
+              let turn = readFrom-taken hash (roomOf es₀ ws₀ cs₀) here applied place t size rest some-left (record-taken hash (roomOf es₀ ws₀ cs₀) here rest t size .1 (d, i, rw room-same at p, refl)) in
               let left = length-drop place s in
               record {
                 some = omega (arith, b);
@@ -176,7 +163,7 @@ module _ (hash : List ℕ → List ℕ) (s : List ℕ) (r₀ : Nursery) (es₀ w
                       size-cs = ap length h ∙ length-cellsTable t (length es) (length ws) (length cs) well (fit .rows-fit) (fit .bytes-fit) ∙ x .size-cs;
                       inside = omega (arith, b, left, whole .inside);
                       counted = omega (arith, b, x .counted);
-                      leads = rw (state-same, add-one applied, b, ← drop-drop (40 + size) place s, k) (sym turn ∙ x .leads);
+                      leads = rw (state-same, add-one applied, b, ← drop-drop (40 + size) place s) (sym turn ∙ x .leads);
                     };
               }
 

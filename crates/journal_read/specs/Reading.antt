@@ -2,13 +2,13 @@
 -- Assumes nothing.
 use Prim.Native.Nat.{ℕ, _+_}
 use mathlib.Core.List.{List}
+use lib.ListN.{length}
 use Rattle.base.specs.Answers.{Outcome, refused, taken}
 use Rattle.cell_nursery.specs.declared.Nursery.{Nursery}
 use Rattle.cell_nursery.specs.Delta.{applyDelta}
 use Rattle.cell_nursery.specs.Layout.{roomOf, stateOf}
 use Rattle.cell_nursery.specs.Calls.{Changed, laid, laidOut}
 use Rattle.format.specs.Record.{Decoding, decode}
-use Rattle.journal.specs.declared.JournalRead.{JournalRead}
 use Rattle.journal.specs.Journal.{End, ReadIn, effect, readFrom}
 use Rattle.journal_read.specs.declared.Step.{Step}
 
@@ -44,4 +44,4 @@ endOn es ws cs e =
 
 -- a journal read on from the state that the tables hold
 unfoldable pub readOn : (List ℕ → List ℕ) → Nursery → List ℕ → List ℕ → List ℕ → List ℕ → ReadIn
-readOn hash r es ws cs bs = endOn es ws cs (readFrom hash (roomOf es ws cs) (stateOf r es ws cs) 0 0 0 bs)
+readOn hash r es ws cs bs = endOn es ws cs (readFrom (length bs) hash (roomOf es ws cs) (stateOf r es ws cs) 0 0 bs)

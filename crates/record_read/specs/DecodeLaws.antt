@@ -2,28 +2,25 @@
 -- Assumes nothing.
 use mathlib.Core.Path.{_≡_, refl, sym, ap, _∙_}
 use mathlib.Core.Bool.{true, false}
-use mathlib.Core.Option.{none, some}
 use mathlib.Core.List.{List, _++_, append-nil}
 use Prim.Native.Nat.{ℕ, _+_, _-_, _*_, _^_, _≤_, _<_}
-use native.Mathlib.Decide.{decLt}
 use native.Mathlib.Omega.{arith}
 use lib.ListN.{length, take, drop}
 use lib.Seq.{paste, drop-drop, take-take, drop-length}
 use borrow.Author.Tests.{le-ltb, lt-ltb, le-leb, lt-leb}
 use Rattle.base.specs.Logic.{eqbList, overlay}
 use Rattle.base.specs.Bytes.{unle}
-use Rattle.base.specs.Answers.{refused, taken}
+use Rattle.base.specs.Answers.{refused}
 use Rattle.base.specs.declared.Refusal.the-variants.{ShortRecord, FarLength, Mismatch, Misfit}
 use Rattle.base.specs.declared.Answer.the-variants.{Taken}
 use Rattle.slices.specs.Laws.{part-front, length-part, drop-take, paste-start}
-use Rattle.slices.specs.NumberLaws.{readLe-at, readLe-short}
 use Rattle.cell_nursery.specs.Entries.{cellBytes}
-use Rattle.cell_nursery.specs.Items.{Delta, deltaOf}
+use Rattle.cell_nursery.specs.Items.{deltaOf}
 use Rattle.delta_items.specs.Walk.{insertsIn, insertsLen, itemsFit, deltaIn}
 use Rattle.delta_items.specs.WalkLaws.{delta-whole, delta-none, fit-inserts, cells-left, length-inserts, length-hashes}
-use Rattle.format.specs.Payload.{payloadOf}
 use Rattle.format.specs.Record.{decode, statsOf}
 use Rattle.format.specs.Calls.{decodedOf, decodeCall}
+use Rattle.format.specs.RefusalLaws.{payload-short, payload-past, payload-items}
 use Rattle.record_read.specs.Judged.{decodingOf, payloadCall}
 
 -- ---- the tests before the payload's
@@ -55,28 +52,6 @@ module _ (hash : List ℕ → List ℕ) (bs : List ℕ) where
         pub decode-payload : eqbList (hash (take (8 + statedLen) (drop 32 bs))) (take 32 bs) ≡ true → decodeCall hash bs ≡ payloadCall statedLen bs
         unfolding decodeCall decode payloadCall decodingOf
         decode-payload e = rw (le-ltb (length bs) 40 whole, lt-leb (2 ^ 64 - 8) statedLen near, le-ltb (length bs) (40 + statedLen) long, e)
-
--- ---- a payload under 16 bytes is none, and one of 16 is its numbers and the delta of the rest
-
-pub payload-short : (p : List ℕ) → length p < 16 → payloadOf p ≡ none
-unfolding payloadOf
-payload-short p h = elim (decLt (length p) 8) [ yes a ↦ rw (readLe-short 8 0 p (omega arith) a) | no a ↦ counts a ]
-  where
-    counts : ¬ (length p < 8) → payloadOf p ≡ none
-    counts a = elim (decLt (length p) 12) [
-      | yes b ↦ rw (readLe-at 8 0 p (omega arith), readLe-short 4 8 p (omega arith) b)
-      | no b ↦ rw (readLe-at 8 0 p (omega arith), readLe-at 4 8 p (omega arith), readLe-short 4 12 p (omega arith) h)
-    ]
-
-module _ (p : List ℕ) (long : 16 ≤ length p) where
-  pub payload-past : deltaOf 2 (unle (take 4 (drop 8 p))) (unle (take 4 (drop 12 p))) (drop 16 p) ≡ none → payloadOf p ≡ none
-  unfolding payloadOf
-  payload-past e = rw (readLe-at 8 0 p (omega arith), readLe-at 4 8 p (omega arith), readLe-at 4 12 p (omega arith), e)
-
-  pub payload-items : (d : Delta) → deltaOf 2 (unle (take 4 (drop 8 p))) (unle (take 4 (drop 12 p))) (drop 16 p) ≡ some d
-      → payloadOf p ≡ some (record { id = unle (take 8 p); delta = d })
-  unfolding payloadOf
-  payload-items d e = rw (readLe-at 8 0 p (omega arith), readLe-at 4 8 p (omega arith), readLe-at 4 12 p (omega arith), e)
 
 -- ---- the payload of n bytes of a record, by places in the record
 

@@ -1,9 +1,9 @@
--- The two calls: what is written of a record and a table that hold a state, read into a table with room, leaves that state with fresh maintenance;
+-- The calls: what is written of a record and a table that hold a state, read into a table with room, leaves that state with fresh maintenance;
 -- when they are refused; and what reading leaves, whatever the bytes.
 -- Assumes nothing.
 use mathlib.Core.Path.{_≡_, refl, sym, ap, _∙_}
 use mathlib.Core.Logic.{_↔_}
-use mathlib.Core.Bool.{Bool, true, false}
+use mathlib.Core.Bool.{Bool, true, false, not}
 use mathlib.Core.List.{List, [], _∷_}
 use Prim.Native.Nat.{ℕ, zero, suc, _^_, _≤_, _<_}
 use native.Mathlib.Omega.{arith}
@@ -13,10 +13,10 @@ use lib.Seq.{take-at}
 use lib.Dec.{ltb}
 use borrow.Author.Tests.{le-ltb, lt-ltb}
 use Rattle.base.specs.ListLaws.{all-drop}
-use Rattle.base.specs.Logic.{all, overlay}
+use Rattle.base.specs.Logic.{all, any, elem, overlay}
 use Rattle.base.specs.Laws.{and-left, and-right}
-use Rattle.base.specs.Answers.{Outcome, refused, taken, answerNumber, answerOf}
-use Rattle.base.specs.OutcomeLaws.{answer-refused}
+use Rattle.base.specs.Answers.{Outcome, refused, taken, numberOf, answerNumber, answerOf}
+use Rattle.base.specs.OutcomeLaws.{taken-refused, refuses-none, refuses-step, answer-refused}
 use Rattle.base.specs.declared.Refusal.{Refusal}
 use Rattle.base.specs.declared.Refusal.the-variants.{Broken, OutputFull}
 use Rattle.base.specs.declared.Answer.{Answer}
@@ -28,11 +28,11 @@ use Rattle.counters.specs.declared.Counters.{Counters}
 use Rattle.counters.specs.Counts.{State, fresh}
 use Rattle.counters.specs.Layout.{countRow, roomOf, recordOf, stateOf, holds}
 use Rattle.counters.specs.LayoutLaws.{held, length-tableOf, stateOf-laid, holds-laid}
-use Rattle.counters.specs.Calls.{laid, laidOut}
-use Rattle.counters.specs.CallLaws.{onState-held, onState-broken}
+use Rattle.counters.specs.Calls.{onState, laid, laidOut}
+use Rattle.counters.specs.CallLaws.{onState-held, onState-broken, broken-exactly}
 use Rattle.snapshot.specs.Write.{snapshotBytes}
 use Rattle.snapshot.specs.Read.{readSnapshot}
-use Rattle.snapshot.specs.Calls.{serializeCall, deserializeCall}
+use Rattle.snapshot.specs.Calls.{lengthCall, serializeCall, deserializeCall}
 use Rattle.snapshot_laws.specs.RoundTrip.{WellFormed, renewed, read-snapshot}
 use Rattle.snapshot_laws.specs.RefusalLaws.{read-ordered, read-fits}
 
@@ -115,6 +115,22 @@ module _ (c : Counters) (t out : List ℕ) where
             | no l ↦ absurd (not-refused (sym (ap (λ (w : Written). w .result .answer) (serialize-held c t h out (omega arith))) ∙ e))
           ]
 
+  -- 20 or 15, and no other
+  pub serialize-numbers : (q : Refusal) → serializeCall c t out .result .answer ≡ Refused q → elem (numberOf q) (20 ∷ 15 ∷ []) ≡ true
+  unfolding any
+  serialize-numbers q e = go (holds c t) refl
+    where
+      among : (r : Refusal) → Refused r ≡ Refused q → elem (numberOf r) (20 ∷ 15 ∷ []) ≡ true → elem (numberOf q) (20 ∷ 15 ∷ []) ≡ true
+      among r f i = let same : q ≡ r = cc in rw same i
+
+      go : (b : Bool) → holds c t ≡ b → elem (numberOf q) (20 ∷ 15 ∷ []) ≡ true
+      go false h = among Broken (sym (ap (λ (w : Written). w .result .answer) (broken-written h)) ∙ e) refl
+      go true h =
+          elim (decLt (length out) long) [
+            | yes l ↦ among OutputFull (sym (ap (λ (w : Written). w .result .answer) (full-written h l)) ∙ e) refl
+            | no l ↦ absurd (not-refused (sym (ap (λ (w : Written). w .result .answer) (serialize-held c t h out (omega arith))) ∙ e))
+          ]
+
   -- a refusal leaves the output as it was
   pub serialize-refused : (r : Refusal) → serializeCall c t out .result .answer ≡ Refused r → (serializeCall c t out .result .len ≡ 0) × (serializeCall c t out .out ≡ out)
   serialize-refused r e = go (holds c t) refl
@@ -126,6 +142,21 @@ module _ (c : Counters) (t out : List ℕ) where
             | yes l ↦ rw (full-written h l) (refl, refl)
             | no l ↦ absurd (not-refused (sym (ap (λ (w : Written). w .result .answer) (serialize-held c t h out (omega arith))) ∙ e))
           ]
+
+-- ---- the refusals of measuring
+module _ (c : Counters) (t : List ℕ) where
+  abbrev measured : Outcome ℕ
+  measured = onState c t (λ s. taken (length (snapshotBytes s)))
+
+  -- 20, broken: exactly where the record and the table hold no state
+  pub length-broken : (lengthCall c t .answer ≡ Refused Broken) ↔ (holds c t ≡ false)
+  unfolding lengthCall
+  length-broken = broken-exactly c t (λ s. taken (length (snapshotBytes s))) (λ s e. taken-refused e)
+
+  -- and no other
+  pub length-numbers : (q : Refusal) → lengthCall c t .answer ≡ Refused q → elem (numberOf q) (20 ∷ []) ≡ true
+  unfolding lengthCall onState any
+  length-numbers q e = refuses-step {P = not (holds c t) ≡ true} Broken [] (λ f. f, λ f. f) (refuses-none [] (length (snapshotBytes (stateOf c t)))) q (answer-refused measured q .0 e)
 
 -- ---- reading what was written
 module _ (base : ℕ) (s : State) (w : WellFormed s) (t : List ℕ) (room : length (s .counts) ≤ roomOf t) where

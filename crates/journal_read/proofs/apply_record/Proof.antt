@@ -32,7 +32,7 @@ add-len : tie.Need-add-len
 add-len c =
     let f = c .before .before .before in
     let a = f .before .before .before .before .before .args in
-    let w = record-taken hash (a .r) (a .es .now) (a .ws .now) (a .cs .now) (a .s .now) (f .decode-record .result) (f .decode-record .ensures) (λ i. f .before .shared-slice-known .given i .fits) (c .before .enum-told2 .given .1) in
+    let w = record-taken hash (a .r) (a .es .now) (a .ws .now) (a .cs .now) (a .s .now) (f .decode-record .result) (f .decode-record .ensures) (c .before .enum-told2 .given .1) in
     let g = f .before .before .before .before .before .good in
     omega (arith, w .inside)
 
@@ -46,7 +46,7 @@ part-apply-commit-held-end : tie.Need-part-apply-commit-held-end
 part-apply-commit-held-end c =
     let f = c .before .before .before .before .before .before in
     let a = f .before .before .before .before .before .args in
-    let w = record-taken hash (a .r) (a .es .now) (a .ws .now) (a .cs .now) (a .s .now) (f .decode-record .result) (f .decode-record .ensures) (λ i. f .before .shared-slice-known .given i .fits) (c .before .before .before .before .enum-told2 .given .1) in
+    let w = record-taken hash (a .r) (a .es .now) (a .ws .now) (a .cs .now) (a .s .now) (f .decode-record .result) (f .decode-record .ensures) (c .before .before .before .before .enum-told2 .given .1) in
     w .inside
 
 apply-commit-held-requires : tie.Need-apply-commit-held-requires
@@ -65,7 +65,7 @@ returns-2 : tie.Need-returns-2
 returns-2 c =
     let f = c .before .before .before .before .before .before .before .before .before .before .before .before .before .before .before in
     let a = f .before .before .before .before .before .args in
-    let w = record-taken hash (a .r) (a .es .now) (a .ws .now) (a .cs .now) (a .s .now) (f .decode-record .result) (f .decode-record .ensures) (λ i. f .before .shared-slice-known .given i .fits) (c .before .before .before .before .before .before .before .before .before .before .before .before .before .enum-told2 .given .1) in
+    let w = record-taken hash (a .r) (a .es .now) (a .ws .now) (a .cs .now) (a .s .now) (f .decode-record .result) (f .decode-record .ensures) (c .before .before .before .before .before .before .before .before .before .before .before .before .before .enum-told2 .given .1) in
     let d = f .decode-record .result in
     let n = d .«items_len» in
     ap (λ (x : Changed). beside (56 + n) x)

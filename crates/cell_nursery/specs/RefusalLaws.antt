@@ -29,15 +29,15 @@ IsPresent s d = Some (λ e. Some (λ x. e .hash ≡ x .hash) (s .entries)) (d .i
 abbrev pub IsFull : Room → State → Delta → Type 0
 IsFull m s d = (m .entries < length (s .entries) + length (d .inserts)) ⊎ (m .cells < cellBytes (s .entries) + cellBytes (d .inserts))
 
-module _ (m : Room) (s : State) (d : Delta) where
-  long-test : (tooLong d ≡ true) ↔ IsLong d
-  unfolding tooLong
-  long-test =
-      or-either (any (λ e. ltb 65535 (length (e .cell))) (d .inserts) || ltb max32 (length (d .inserts))) (ltb max32 (length (d .removes)))
-      (or-either (any (λ e. ltb 65535 (length (e .cell))) (d .inserts)) (ltb max32 (length (d .inserts)))
-      (any-some (λ e. ltb 65535 (length (e .cell))) (λ e. ltb-lt 65535 (length (e .cell))) (d .inserts)) (ltb-lt max32 (length (d .inserts))))
-      (ltb-lt max32 (length (d .removes)))
+pub long-test : (d : Delta) → (tooLong d ≡ true) ↔ IsLong d
+unfolding tooLong
+long-test d =
+    or-either (any (λ e. ltb 65535 (length (e .cell))) (d .inserts) || ltb max32 (length (d .inserts))) (ltb max32 (length (d .removes)))
+    (or-either (any (λ e. ltb 65535 (length (e .cell))) (d .inserts)) (ltb max32 (length (d .inserts)))
+    (any-some (λ e. ltb 65535 (length (e .cell))) (λ e. ltb-lt 65535 (length (e .cell))) (d .inserts)) (ltb-lt max32 (length (d .inserts))))
+    (ltb-lt max32 (length (d .removes)))
 
+module _ (m : Room) (s : State) (d : Delta) where
   present-test : (present s d ≡ true) ↔ IsPresent s d
   unfolding present
   present-test =
@@ -54,30 +54,30 @@ module _ (m : Room) (s : State) (d : Delta) where
   -- 14, too long
   pub delta-long : (applyDelta m s d ≡ refused TooLong) ↔ IsLong d
   unfolding applyDelta
-  delta-long = ends-here long-test (never-ends present-test (other-number (omega arith)) (never-ends full-test (other-number (omega arith)) taken-refused))
+  delta-long = ends-here (long-test d) (never-ends present-test (other-number (omega arith)) (never-ends full-test (other-number (omega arith)) taken-refused))
 
   -- 12, present
   pub delta-present : (applyDelta m s d ≡ refused Present) ↔ ((¬ IsLong d) × IsPresent s d)
   unfolding applyDelta
-  delta-present = ends-later long-test (other-number (omega arith)) (ends-here present-test (never-ends full-test (other-number (omega arith)) taken-refused))
+  delta-present = ends-later (long-test d) (other-number (omega arith)) (ends-here present-test (never-ends full-test (other-number (omega arith)) taken-refused))
 
   -- 13, nursery full
   pub delta-full : (applyDelta m s d ≡ refused NurseryFull) ↔ ((¬ IsLong d) × (¬ IsPresent s d) × IsFull m s d)
   unfolding applyDelta
   delta-full =
       flat-three
-      (ends-later long-test (other-number (omega arith)) (ends-later present-test (other-number (omega arith)) (ends-here full-test taken-refused)))
+      (ends-later (long-test d) (other-number (omega arith)) (ends-later present-test (other-number (omega arith)) (ends-here full-test taken-refused)))
 
   -- taken: none of the three
   pub delta-accepted : (t : State) → (applyDelta m s d ≡ taken t) ↔ ((¬ IsLong d) × (¬ IsPresent s d) × (¬ IsFull m s d) × (t ≡ stateAfter d s))
   unfolding applyDelta
   delta-accepted t =
       flat-four
-      (ends-later long-test refused-taken (ends-later present-test refused-taken (ends-later full-test refused-taken (taken-same (stateAfter d s) t))))
+      (ends-later (long-test d) refused-taken (ends-later present-test refused-taken (ends-later full-test refused-taken (taken-same (stateAfter d s) t))))
 
   -- it is refused with no other number
   pub delta-numbers : Refuses (14 ∷ 12 ∷ 13 ∷ []) (applyDelta m s d)
   unfolding applyDelta
   delta-numbers =
-      refuses-step TooLong (12 ∷ 13 ∷ []) long-test
+      refuses-step TooLong (12 ∷ 13 ∷ []) (long-test d)
       (refuses-step Present (13 ∷ []) present-test (refuses-step NurseryFull [] full-test (refuses-none [] (stateAfter d s))))
