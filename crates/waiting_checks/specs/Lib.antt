@@ -1,5 +1,5 @@
--- `Marks`: the entries of a window, marked one after the other. `MarkLaws`: a mark is the only one that changes. `WindowLaws`: the rows of a
--- window, and of all windows. `TiedLaws`: the rows of all windows are tied to entries exactly where the waiting rows are.
+-- `Marks`: the entries of a window, marked one after the other. `MarkLaws`: one more mark leaves the others. `WindowLaws`: the rows of a
+-- window, and of all windows. `TiedLaws`: places in place of hashes. `RowLaws`: what the code finds out of one row.
 pub mod Marks
 pub mod MarkLaws
 pub mod WindowLaws

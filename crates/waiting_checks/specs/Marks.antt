@@ -2,7 +2,7 @@
 -- Assumes nothing.
 use Prim.Native.Nat.{ℕ, _+_, _-_, _*_, _/_, _%_, _^_}
 use mathlib.Core.Bool.{Bool, true, not, _&&_}
-use mathlib.Core.List.{List, [], _∷_, map}
+use mathlib.Core.List.{List, map}
 use lib.ListN.{getD, set}
 use lib.Dec.{leb, ltb, eqb}
 use Rattle.base.specs.Logic.{pick, all, keep, repeated}
@@ -31,11 +31,6 @@ module _ {A : Type 0} (key : A → ℕ) (ok : A → Bool) where
   unfoldable pub marksWith : ℕ → List ℕ → A → List ℕ
   marksWith lo m x = pick (within lo (key x) && passes lo m x) (withMark m (key x - lo)) m
 
-  -- the rows pass, one after the other
-  unfoldable pub allPass : ℕ → List ℕ → List A → Bool
-  allPass lo m [] = true
-  allPass lo m (x ∷ xs) = passes lo m x && allPass lo (marksWith lo m x) xs
-
   -- each row is right, and no two have one place
   unfoldable pub clean : List A → Bool
   clean xs = all ok xs && not (repeated (map key xs))
@@ -55,6 +50,7 @@ module _ (r : Nursery) (es : List ℕ) where
       ltb (placeOf w) (r .entries) && eqb (getD (keys firstFour 8 (r .entries) es) (placeOf w) 0) (hashOf (w .hash))
       && eqb (getD es (placeOf w * 8 + 5) 0) (w .born)
 
+  -- a waiting row passes, the marks that it leaves, and whether those of a window are clean
   abbrev pub rowPasses : ℕ → List ℕ → WaitingRow → Bool
   rowPasses lo m w = passes placeOf namesAt lo m w
 

@@ -19,7 +19,8 @@ use Rattle.cell_nursery.specs.declared.Nursery.{Nursery}
 use Rattle.cell_nursery.specs.Layout.{hashOf, WaitingRow, waitingRow}
 use Rattle.cell_nursery.specs.LayoutLaws.{EntriesHeld}
 use Rattle.cell_nursery.specs.CheckLaws.{waiterAtRow, from-waiter}
-use Rattle.waiting_checks.specs.Marks.{isMarked, withMark, within, passes, marksWith, allPass, placeOf, namesAt}
+use Rattle.waiting_checks.specs.Marks.{isMarked, withMark, within, passes, marksWith, placeOf, namesAt}
+use Rattle.waiting_checks.specs.WindowLaws.{allPass}
 
 -- ---- the window of a hash
 module _ (r : Nursery) (es : List ℕ) (x : EntriesHeld r es) (h : ℕ) where

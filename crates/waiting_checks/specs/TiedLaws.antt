@@ -1,6 +1,6 @@
 -- The waiting rows are right and no two have one place exactly where they are tied to the entries, whatever the cells hold.
 -- Assumes nothing.
-use mathlib.Core.Path.{_≡_, refl, sym, ap, _∙_}
+use mathlib.Core.Path.{_≡_, refl, sym, ap, fun-ext, _∙_}
 use mathlib.Core.Bool.{Bool, true, false, not, _&&_, and-false, or-false}
 use mathlib.Core.List.{List, [], _∷_, map, map-map}
 use Prim.Native.Nat.{ℕ, suc, _+_, _*_, _≤_}
@@ -99,11 +99,6 @@ module _ (r : Nursery) (es : List ℕ) where
         | no e ↦ rw (ne-eqb (hashOf (v .hash)) (hashOf (w .hash)) e) (ne-eqb (placeOf r es v) (placeOf r es w) (λ m. e (sym p ∙ ap (λ (k : ℕ). getD (keys firstFour 8 (r .entries) es) k 0) m ∙ q)))
       ]
 
-all-same : {A : Type 0} (p q : A → Bool) → ((x : A) → p x ≡ q x) → (xs : List A) → all p xs ≡ all q xs
-unfolding all
-all-same p q h [] = refl
-all-same p q h (x ∷ xs) = rw (h x, all-same p q h xs)
-
 module _ (r : Nursery) (es ws cs : List ℕ) (x : EntriesHeld r es) where
   abbrev rows : List WaitingRow
   rows = rowsOf waitingRow (r .waiting) ws
@@ -116,7 +111,7 @@ module _ (r : Nursery) (es ws cs : List ℕ) (x : EntriesHeld r es) where
   unfolding waitingOf
   all-named =
       all-map (λ w. any (names w) (entriesOf (r .entries) es cs)) waiterOf rows
-      ∙ all-same (λ w. any (names (waiterOf w)) (entriesOf (r .entries) es cs)) (namesAt r es) (λ w. sym (names-same r es cs x w)) rows
+      ∙ ap (λ (p : WaitingRow → Bool). all p rows) (fun-ext (λ w. sym (names-same r es cs x w)))
 
   pub tied-clean : clean (placeOf r es) (namesAt r es) (rowsOf waitingRow (r .waiting) ws) ≡ tied (stateOf r es ws cs)
   unfolding clean tied stateOf

@@ -1,7 +1,7 @@
 -- The rows of a window pass one after the other exactly where each is right and no two have one place; and all rows are so where those of every
 -- window are.
 -- Assumes nothing.
-use mathlib.Core.Path.{_≡_, refl, sym, ap, _∙_}
+use mathlib.Core.Path.{_≡_, refl, sym, ap, fun-ext, _∙_}
 use mathlib.Core.Bool.{Bool, true, false, not, _&&_, _||_, and-false, and-true, and-comm, true≢false}
 use mathlib.Core.List.{List, [], _∷_, map}
 use Prim.Native.Nat.{ℕ, _+_, _-_, _/_, _≤_, _<_}
@@ -13,8 +13,13 @@ use borrow.Author.Tests.{le-leb, lt-leb, leb-true, leb-false, not-true, eq-eqb, 
 use Rattle.base.specs.Logic.{pick, all, any, keep, elem, repeated, zeros}
 use Rattle.base.specs.Laws.{and-left, and-right}
 use Rattle.base.specs.ListLaws.{eqb-sym}
-use Rattle.waiting_checks.specs.Marks.{isMarked, withMark, within, passes, marksWith, allPass, clean, cleanWithin}
+use Rattle.waiting_checks.specs.Marks.{isMarked, withMark, within, passes, marksWith, clean, cleanWithin}
 use Rattle.waiting_checks.specs.MarkLaws.{none-marked, mark-here, mark-other}
+
+-- the rows pass, one after the other
+unfoldable pub allPass : {A : Type 0} → (A → ℕ) → (A → Bool) → ℕ → List ℕ → List A → Bool
+allPass key ok lo m [] = true
+allPass key ok lo m (x ∷ xs) = passes key ok lo m x && allPass key ok lo (marksWith key ok lo m x) xs
 
 -- ---- marks that say which places were seen
 
@@ -55,11 +60,6 @@ any-or p q (x ∷ xs) = rw (any-or p q xs) (go (p x) (q x) (any p xs) (any q xs)
     go false true false d = refl
     go false false c d = refl
 
-any-same : {A : Type 0} (p q : A → Bool) → ((x : A) → p x ≡ q x) → (xs : List A) → any p xs ≡ any q xs
-unfolding any
-any-same p q h [] = refl
-any-same p q h (x ∷ xs) = rw (h x, any-same p q h xs)
-
 any-none : {A : Type 0} (xs : List A) → any (λ x. false) xs ≡ false
 unfolding any
 any-none [] = refl
@@ -71,7 +71,7 @@ again seen ks = any (λ k. elem k seen) ks
 
 again-more : (k : ℕ) (seen ks : List ℕ) → again (k ∷ seen) ks ≡ (elem k ks || again seen ks)
 unfolding any
-again-more k seen ks = any-or (λ x. eqb x k) (λ x. elem x seen) ks ∙ ap (λ (b : Bool). b || again seen ks) (any-same (λ x. eqb x k) (λ x. eqb k x) (λ x. eqb-sym x k) ks)
+again-more k seen ks = any-or (λ x. eqb x k) (λ x. elem x seen) ks ∙ ap (λ (b : Bool). b || again seen ks) (ap (λ (p : ℕ → Bool). any p ks) (fun-ext (λ x. eqb-sym x k)))
 
 none-again : (ks : List ℕ) → again [] ks ≡ false
 unfolding any
@@ -144,11 +144,6 @@ module _ {A : Type 0} where
       go true r = ap (λ (l : List A). pick (p x) (x ∷ l) l) r
       go false r = r
 
-  keep-same : (p q : A → Bool) → ((x : A) → p x ≡ q x) → (xs : List A) → keep p xs ≡ keep q xs
-  unfolding keep
-  keep-same p q h [] = refl
-  keep-same p q h (x ∷ xs) = rw (h x, keep-same p q h xs)
-
 module _ {A : Type 0} (key : A → ℕ) (ok : A → Bool) where
   -- a place is among those that a test of places keeps, where the test keeps it
   elem-kept : (p : ℕ → Bool) (k : ℕ) (xs : List A) → p k ≡ true → elem k (map key (keep (λ x. p (key x)) xs)) ≡ elem k (map key xs)
@@ -196,8 +191,8 @@ module _ {A : Type 0} (key : A → ℕ) (ok : A → Bool) where
           (among-second (ok x) (elem (key x) (map key xs)) (all ok xs) (repeated (map key xs)) (all ok ys) (repeated (map key ys)) (all ok zs) (repeated (map key zs)) r)
 
   -- the rows from a place on
-  abbrev pub from : ℕ → List A → List A
-  from lo xs = keep (λ x. leb lo (key x)) xs
+  abbrev pub rowsFrom : ℕ → List A → List A
+  rowsFrom lo xs = keep (λ x. leb lo (key x)) xs
 
   past : (lo k : ℕ) → (leb lo k && leb (lo + 65536) k) ≡ leb (lo + 65536) k
   past lo k =
@@ -206,19 +201,19 @@ module _ {A : Type 0} (key : A → ℕ) (ok : A → Bool) where
         | no h ↦ rw (lt-leb (lo + 65536) k (omega arith)) (and-false (leb lo k))
       ]
 
-  pub next-window : (lo : ℕ) (xs : List A) → clean key ok (from lo xs) ≡ (cleanWithin key ok lo xs && clean key ok (from (lo + 65536) xs))
+  pub next-window : (lo : ℕ) (xs : List A) → clean key ok (rowsFrom lo xs) ≡ (cleanWithin key ok lo xs && clean key ok (rowsFrom (lo + 65536) xs))
   unfolding cleanWithin within
   next-window lo xs =
-      clean-parts (λ k. leb (lo + 65536) k) (from lo xs)
-      ∙ rw (keep-both (λ x. not (leb (lo + 65536) (key x))) (λ x. leb lo (key x)) xs, keep-both (λ x. leb (lo + 65536) (key x)) (λ x. leb lo (key x)) xs, keep-same (λ x. leb lo (key x) && leb (lo + 65536) (key x)) (λ x. leb (lo + 65536) (key x)) (λ x. past lo (key x)) xs)
-      (and-comm (clean key ok (from (lo + 65536) xs)) (cleanWithin key ok lo xs))
+      clean-parts (λ k. leb (lo + 65536) k) (rowsFrom lo xs)
+      ∙ rw (keep-both (λ x. not (leb (lo + 65536) (key x))) (λ x. leb lo (key x)) xs, keep-both (λ x. leb (lo + 65536) (key x)) (λ x. leb lo (key x)) xs, ap (λ (p : A → Bool). keep p xs) (fun-ext (λ x. past lo (key x))))
+      (and-comm (clean key ok (rowsFrom (lo + 65536) xs)) (cleanWithin key ok lo xs))
 
-  pub first-window : (xs : List A) → from 0 xs ≡ xs
+  pub first-window : (xs : List A) → rowsFrom 0 xs ≡ xs
   unfolding keep
   first-window [] = refl
   first-window (x ∷ xs) = rw (le-leb 0 (key x) (omega arith), first-window xs)
 
-  pub last-window : (lo : ℕ) (xs : List A) → ((x : A) → key x < lo) → clean key ok (from lo xs) ≡ true
+  pub last-window : (lo : ℕ) (xs : List A) → ((x : A) → key x < lo) → clean key ok (rowsFrom lo xs) ≡ true
   unfolding keep clean all repeated
   last-window lo [] h = refl
   last-window lo (x ∷ xs) h = rw (lt-leb lo (key x) (h x)) (last-window lo xs h)

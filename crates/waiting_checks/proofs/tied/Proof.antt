@@ -12,14 +12,14 @@ use Rattle.rows.specs.Keys.{firstFour, keys}
 use Rattle.rows.specs.KeyLaws.{place-le, length-keys}
 use Rattle.cell_nursery.specs.Layout.{hashOf, WaitingRow, waitingRow}
 use Rattle.waiting_checks.specs.Marks.{clean, placeOf, namesAt}
-use Rattle.waiting_checks.specs.WindowLaws.{from, first-window, next-window, last-window}
+use Rattle.waiting_checks.specs.WindowLaws.{rowsFrom, first-window, next-window, last-window}
 use Rattle.waiting_checks.specs.TiedLaws.{tied-clean}
 use Rattle.waiting_checks.proofs.tied.Statement.{statement}
 use Rattle.waiting_checks.proofs.tied.Tie as tie
 
 abbrev Inv-loop : tie.InvT-loop
 Inv-loop r es ws lo₀ lo =
-    clean (placeOf r es) (namesAt r es) (rowsOf waitingRow (r .waiting) ws) ≡ clean (placeOf r es) (namesAt r es) (from (placeOf r es) (namesAt r es) lo (rowsOf waitingRow (r .waiting) ws))
+    clean (placeOf r es) (namesAt r es) (rowsOf waitingRow (r .waiting) ws) ≡ clean (placeOf r es) (namesAt r es) (rowsFrom (placeOf r es) (namesAt r es) lo (rowsOf waitingRow (r .waiting) ws))
 
 abbrev μ-loop : tie.MeasureT-loop
 μ-loop r es ws lo₀ lo = suc (r .entries) - lo
@@ -43,7 +43,7 @@ returns c = λ (cs : List ℕ).
     let ws = rowsOf waitingRow (s .args .r .waiting) (s .args .ws .now) in
     let e = sym (c .before .window-tied .ensures) ∙ not-true _ (c .if2 .taken) in
     sym (sym (tied-clean (s .args .r) (s .args .es .now) (s .args .ws .now) cs (s .pre .0)) ∙ l .inv ∙ next-window key ok (l .lo) ws
-    ∙ ap (λ (b : Bool). b && clean key ok (from key ok (l .lo + 65536) ws)) e)
+    ∙ ap (λ (b : Bool). b && clean key ok (rowsFrom key ok (l .lo + 65536) ws)) e)
 
 add-lo : tie.Need-add-lo Inv-loop μ-loop
 add-lo c = omega (arith, c .before .before .before .before .before .before .before .pre .0 .laid .fits)
@@ -59,7 +59,7 @@ loop-again c =
     let ok = namesAt (s .args .r) (s .args .es .now) in
     let ws = rowsOf waitingRow (s .args .r .waiting) (s .args .ws .now) in
     let e = sym (c .before .window-tied .ensures) ∙ not-false _ (c .if2 .left) in
-    l .inv ∙ next-window key ok (l .lo) ws ∙ ap (λ (b : Bool). b && clean key ok (from key ok (l .lo + 65536) ws)) e
+    l .inv ∙ next-window key ok (l .lo) ws ∙ ap (λ (b : Bool). b && clean key ok (rowsFrom key ok (l .lo + 65536) ws)) e
 
 returns-2 : tie.Need-returns-2 Inv-loop μ-loop
 returns-2 c = λ (cs : List ℕ).

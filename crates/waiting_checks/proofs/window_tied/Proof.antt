@@ -10,8 +10,8 @@ use borrow.Author.Tests.{not-true, not-false}
 use Rattle.base.specs.Logic.{zeros}
 use Rattle.rows.specs.Table.{rowsOf}
 use Rattle.cell_nursery.specs.Layout.{waitingRow}
-use Rattle.waiting_checks.specs.Marks.{allPass, placeOf, namesAt}
-use Rattle.waiting_checks.specs.WindowLaws.{window-clean}
+use Rattle.waiting_checks.specs.Marks.{placeOf, namesAt}
+use Rattle.waiting_checks.specs.WindowLaws.{allPass, window-clean}
 use Rattle.waiting_checks.specs.RowLaws.{pass-stops, pass-goes, pass-ends}
 use Rattle.waiting_checks.proofs.window_tied.Statement.{statement}
 use Rattle.waiting_checks.proofs.window_tied.Tie as tie
