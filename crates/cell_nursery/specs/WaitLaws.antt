@@ -290,7 +290,7 @@ module _ (s : State) (o : ascending (map (λ e. e .hash) (s .entries)) ≡ true)
 -- after an insert of an absent hash another one is still absent
 absent-insert : (h : ℕ) (e : Entry) (s : State) → elem (e .hash) (map (λ x. x .hash) (s .entries)) ≡ false → (h ≡ e .hash → ⊥)
     → elem h (map (λ x. x .hash) (s .entries)) ≡ false → elem h (map (λ x. x .hash) (insert e s .entries)) ≡ false
-unfolding insert putEntry any
+unfolding insert putEntry putRows any
 absent-insert h e s b ne a =
     any-order (eqb h) (Permᴰ·map (λ x. x .hash) (put-absent (λ x. x .hash) e (s .entries) (e .hash) b)) ∙ rw (ne-eqb h (e .hash) ne) a
 
