@@ -5,12 +5,13 @@ use mathlib.Core.Logic.{_↔_, _⊎_, inl, inr}
 use mathlib.Core.Bool.{Bool, true, false, not, _&&_, _||_, true≢false, false≢true, and-assoc}
 use mathlib.Core.List.{List, [], _∷_, _++_, map, Permᴰ·map, Permᴰ·refl}
 use mathlib.Core.List.{List·Permᴰ as Reordered, List·Permᴰ·nil as order-nil, List·Permᴰ·cons as order-cons, List·Permᴰ·swap as order-swap, List·Permᴰ·trans as order-trans}
-use Prim.Native.Nat.{ℕ, suc, _+_, _*_, _≤_, _<_}
+use Prim.Native.Nat.{ℕ, zero, suc, _+_, _*_, _≤_, _<_}
+use native.Mathlib.Nat.{zero-add, add-zero, suc-add}
 use native.Mathlib.Omega.{arith}
 use lib.ListN.{length, take, drop, length-append, take-append-drop}
 use lib.Dec.{eqb, leb, ltb}
 use borrow.Author.Tests.{eqb-true, eqb-false, eq-eqb, ne-eqb, leb-true, le-leb, ltb-true, lt-ltb}
-use Rattle.base.specs.Logic.{pick, all, any, keep, fold, flat, elem, repeated, sumOf, ascendingFrom}
+use Rattle.base.specs.Logic.{pick, all, any, keep, fold, flat, from, elem, repeated, sumOf, ascendingFrom}
 use Rattle.base.specs.Laws.{and-left, and-right, and-both, ascending-head, ascending-tail, ascending-lower}
 
 -- ---- tests
@@ -398,3 +399,14 @@ module _ {A B : Type 0} (f : A → B) where
   unfolding any
   any-map p [] = refl
   any-map p (x ∷ xs) = ap (λ (b : Bool). p (f x) || b) (any-map p xs)
+
+-- ---- numbers in a row
+pub length-from : (p n : ℕ) → length (from p n) ≡ n
+unfolding from
+length-from p zero = refl
+length-from p (suc n) = ap suc (length-from (suc p) n)
+
+pub from-append : (p a b : ℕ) → from p (a + b) ≡ from p a ++ from (p + a) b
+unfolding from
+from-append p zero b = rw (zero-add b, add-zero p)
+from-append p (suc a) b = rw (suc-add a b) (ap (λ (l : List ℕ). p ∷ l) (from-append (suc p) a b ∙ ap (λ (q : ℕ). from (suc p) a ++ from q b) (omega arith)))

@@ -6,8 +6,7 @@ use Prim.Native.Nat.{ℕ, zero, suc, _+_}
 use lib.ListN.{length, drop}
 use lib.Dec.{ltb}
 use Rattle.base.specs.Logic.{pick}
-use Rattle.roaring.specs.Read.{parse64}
-use Rattle.roaring.specs.Scan.{isSome}
+use Rattle.roaring.specs.Read.{isSome, parse64}
 use Rattle.snapshot_lanes.specs.declared.sets.End.{End}
 use Rattle.snapshot_lanes.specs.declared.sets.End.the-variants.{At, Torn, Bad}
 use Rattle.snapshot_tiers.specs.Payloads.{sizeOf, payloadOf}

@@ -11,7 +11,7 @@ use lib.Dec.{eqb}
 use lib.Pow.{pow-mono}
 use borrow.Author.Tests.{le-leb, lt-leb, eqb-true, eqb-false}
 use Rattle.base.specs.Logic.{pick, all, ascendingFrom}
-use Rattle.roaring_cursor.specs.Cursor.{Good, membersFrom, membersOf, Started, Stepped}
+use Rattle.roaring_cursor.specs.Cursor.{Good, membersFrom, Stepped}
 use Rattle.roaring_cursor.specs.declared.Step.the-variants.{Member, Done}
 use Rattle.roaring_cursor.specs.declared.Cursor.{Cursor}
 use Rattle.snapshot_tiers.specs.declared.Head.{Head}
@@ -33,9 +33,6 @@ module _ (s : List ℕ) (at end : ℕ) (c : Cursor) (order : at ≤ end) (inside
   lane-done g p = record { list = sym (p .members); opened = record { order = order; inside = inside; good = g } }
 
 -- ---- where a lane starts
-pub started-members : (s : List ℕ) (c : Cursor) → Started s c → membersFrom s c ≡ membersOf s
-started-members s c p = rw (p .members)
-
 pub payload-part : (s : List ℕ) (p n : ℕ) → n ≡ sizeOf (drop p s) → take (p + 8 + n - (p + 8)) (drop (p + 8) s) ≡ payloadOf (drop p s)
 payload-part s p n e =
     let z : p + 8 + n - (p + 8) ≡ n = omega arith in

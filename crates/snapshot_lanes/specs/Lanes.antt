@@ -7,8 +7,7 @@ use Prim.Native.Nat.{ℕ, suc, _+_, _-_, _^_, _≤_, _<_}
 use lib.ListN.{length, take, drop, getD}
 use lib.Dec.{eqb}
 use Rattle.base.specs.Logic.{pick}
-use Rattle.roaring.specs.Read.{parse64}
-use Rattle.roaring.specs.Scan.{isSome}
+use Rattle.roaring.specs.Read.{isSome, parse64}
 use Rattle.roaring_cursor.specs.Cursor.{Good, membersFrom}
 use Rattle.snapshot_tiers.specs.declared.Head.{Head}
 use Rattle.snapshot_lanes.specs.declared.lanes.Lane.{Lane}

@@ -2,7 +2,7 @@
 -- snapshot as it takes itself, two in each of eight sets or sixteen in the large tier; the rest are buckets and containers, of
 -- which there are few.
 -- Assumes nothing.
-use mathlib.Core.Path.{_≡_, refl}
+use mathlib.Core.Path.{_≡_}
 use mathlib.Core.Bool.{Bool, true, false}
 use mathlib.Core.List.{List, [], _∷_, _++_, map}
 use Prim.Native.Nat.{ℕ, zero, suc, _+_, _-_, _*_, _^_, _≤_, _<_}
@@ -11,7 +11,7 @@ use native.Mathlib.Decide.{decLe}
 use native.Mathlib.Omega.{arith}
 use lib.Dec.{leb, ltb}
 use lib.ListN.{length, length-append}
-use borrow.Author.Tests.{le-leb, lt-leb, leb-false, lt-ltb, ltb-true}
+use borrow.Author.Tests.{le-leb, lt-leb, lt-ltb, ltb-true}
 use Rattle.base.specs.Logic.{pick, all, keep, flat, from, ascending}
 use Rattle.base.specs.Bytes.{le64}
 use Rattle.base.specs.Laws.{and-left, and-right, length-digits}
@@ -19,9 +19,9 @@ use Rattle.base.specs.ListLaws.{all-keep, all-weaker, ascending-keep, length-fl
 use Rattle.base.specs.SumLaws.{all-map, sumOf-even, sumOf-le, sumOf-times}
 use Rattle.rows.specs.Table.{rowsOf}
 use Rattle.rows.specs.TableLaws.{length-rowsOf}
-use Rattle.roaring.specs.Write.{parts, write64}
+use Rattle.roaring.specs.ContainerLaws.{containerLength-twice}
+use Rattle.roaring.specs.Write.{parts, write64, containerLength}
 use Rattle.roaring.specs.PartLaws.{few-parts}
-use Rattle.roaring.specs.ContainerLaws.{containerLength}
 use Rattle.roaring_rows.specs.LengthLaws.{length-write64, members-parts}
 use Rattle.counters.specs.declared.Counters.{Counters}
 use Rattle.counters.specs.Counts.{Entry, inSet, members, large}
@@ -34,13 +34,6 @@ use Rattle.snapshot_parts.specs.PartLaws.{length-snapshot}
 -- ---- a bitmap of ascending numbers of 64 bits: two bytes a member, and what buckets and containers take
 abbrev most : ℕ
 most = 12 * 2 ^ 32 + 8 * 2 ^ 48
-
-containerLength-twice : (n : ℕ) → containerLength n ≤ 2 * n
-containerLength-twice n = go (leb n 4096) refl
-  where
-    go : (b : Bool) → leb n 4096 ≡ b → pick b (2 * n) 8192 ≤ 2 * n
-    go true e = omega arith
-    go false e = omega (arith, leb-false n 4096 e)
 
 bitmap-short : (xs : List ℕ) → ascending xs ≡ true → all (λ x. ltb x (2 ^ 64)) xs ≡ true → length (write64 xs) ≤ 8 + most + 2 * length xs
 bitmap-short xs a e =

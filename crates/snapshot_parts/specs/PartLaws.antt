@@ -15,9 +15,10 @@ use Rattle.slices.specs.Laws.{paste-prepend, paste-one}
 use Rattle.rows.specs.Table.{rowsOf}
 use Rattle.rows.specs.TableLaws.{length-rowsOf}
 use Rattle.roaring_rows.specs.RowMembers as row
-use Rattle.roaring_rows.specs.RowMembers.{members-rows}
+use Rattle.roaring_rows.specs.RowLaws.{members-rows}
 use Rattle.roaring.specs.Write.{write64}
-use Rattle.roaring_rows.specs.PlaceLaws.{putAt, putAt-append, putAt-next}
+use Rattle.roaring_rows.specs.PlaceLaws.{putAt-append, putAt-next}
+use Rattle.roaring_rows.specs.Places.{putAt}
 use Rattle.roaring_rows.specs.DataLaws.{put-digits}
 use Rattle.counters.specs.declared.Counters.{Counters}
 use Rattle.counters.specs.Counts.{smallCode, inSet, members, large}

@@ -6,6 +6,7 @@ use borrow.Author.Needs.{needs}
 use borrow.Author.Tests.{not-false}
 use lib.ListN.{length}
 use Rattle.roaring_cursor.specs.Cursor.{Good, GoodOf}
+use Rattle.roaring_cursor.specs.CursorLaws.{started}
 use Rattle.record_vectors.proofs.bitmap_calls.members.Statement.{statement}
 use Rattle.record_vectors.proofs.bitmap_calls.members.Tie as tie
 
@@ -19,7 +20,10 @@ start-requires : tie.Need-start-requires Inv-loop μ-loop
 start-requires c κs = sym (c .before .is-bitmap64 .ensures) ∙ not-false _ (c .if1 .left)
 
 loop-holds : tie.Need-loop-holds Inv-loop μ-loop
-loop-holds c = (search needs, c .before .before .before .before .before .start .ensures .good)
+loop-holds c =
+    let p = c .before .before .before .before .before in
+    let e = sym (p .before .before .is-bitmap64 .ensures) ∙ not-false _ (p .before .if1 .left) in
+    (search needs, started (p .before .before .before .before .before .args .s .now) e (p .start .result) (p .start .ensures) .good)
 
 next-requires : tie.Need-next-requires Inv-loop μ-loop
 next-requires c κs = c .before .loop .inv .1
