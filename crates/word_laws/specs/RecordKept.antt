@@ -16,13 +16,13 @@ use Rattle.blake3.specs.Spec as blake3
 use Rattle.cell_nursery.specs.Items.{deltaOf}
 use Rattle.cell_nursery.specs.Layout.{recordOf, entriesTable, waitingTable, cellsTable, roomOf}
 use Rattle.cell_nursery.specs.LayoutLaws.{holds-laid}
+use Rattle.cell_nursery.specs.ByteLaws.{U8, u8-bytes}
 use Rattle.cell_nursery.specs.Calls.{lengthWidth, laid}
 use Rattle.format.specs.Record.{Encoding, Decoding, encode, decode}
 use Rattle.format.specs.Calls.{noStats, encodedOut, encodeCall, decodedOf, decodeCall}
 use Rattle.journal.specs.Journal.{readJournal, readCall}
 use Rattle.journal_laws.specs.LoadLaws.{journal-loaded}
 use Rattle.journal_laws.specs.EndLaws.{endNumbers, read-ends}
-use Rattle.journal_read.specs.RecordLaws.{U8, u8-bytes}
 use Rattle.state_words.specs.WordLaws.{over-nursery}
 use Rattle.state_words.specs.Words.{brokenSaid, overNursery, Unchanged, left}
 use Rattle.word_calls.specs.NurserySaid.{flag}
