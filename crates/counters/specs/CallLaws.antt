@@ -2,17 +2,17 @@
 -- Assumes nothing.
 use mathlib.Core.Path.{_≡_, refl, sym, ap, _∙_}
 use mathlib.Core.Logic.{_↔_, _⊎_, inl, inr}
-use mathlib.Core.Bool.{Bool, true, false, true≢false, false≢true}
+use mathlib.Core.Bool.{Bool, true, false, not, true≢false, false≢true, or-true}
 use mathlib.Core.Option.{Option, none, some}
-use mathlib.Core.List.{List}
+use mathlib.Core.List.{List, [], _∷_}
 use Prim.Native.Nat.{ℕ, _+_, _/_, _%_, _≤_}
 use native.Mathlib.Omega.{arith}
 use lib.ListN.{length}
 use lib.Dec.{eqb}
 use borrow.Author.Tests.{eqb-true, eqb-false}
-use Rattle.base.specs.Logic.{all, any, ascendingFrom}
+use Rattle.base.specs.Logic.{all, any, elem, ascendingFrom}
 use Rattle.base.specs.Laws.{and-left, and-both}
-use Rattle.base.specs.Answers.{Outcome, refused, taken, _>>=_, orRefuse, answerOf, valueOr}
+use Rattle.base.specs.Answers.{Outcome, refused, taken, _>>=_, orRefuse, answerOf, valueOr, numberOf}
 use Rattle.base.specs.declared.Refusal.{Refusal}
 use Rattle.base.specs.declared.Refusal.the-variants.{Broken}
 use Rattle.base.specs.declared.Answer.the-variants.{Taken, Refused}
@@ -29,7 +29,7 @@ use Rattle.counters.specs.Layout.{countRow, transitionRow, roomOf, withN
 use Rattle.counters.specs.LayoutLaws.{held, length-tableOf, stateOf-laid, holds-laid}
 use Rattle.counters.specs.Calls.{onState, laid, laidOut, newCall, allocated, allocCall, getCall, batchCall, decided, shrinkCall}
 use Rattle.counters.specs.CountLaws.{ordered-more}
-use Rattle.base.specs.OutcomeLaws.{refused-taken, taken-refused, answer-refused}
+use Rattle.base.specs.OutcomeLaws.{refused-taken, taken-refused, answer-refused, Refuses, refuses-none, refuses-step}
 use Rattle.counters.specs.RefusalLaws.{allocate-taken, get-numbers, batch-numbers, taken-ordered, taken-fits}
 
 -- ---- an operation on the state that a record and a table hold
@@ -50,6 +50,11 @@ module _ {A : Type 0} (c : Counters) (t : List ℕ) (f : State → Outcome A) wh
       go : (b : Bool) → holds c t ≡ b → (answerOf (onState c t f) ≡ Refused Broken) ↔ (b ≡ false)
       go true h = (λ e. absurd (n (stateOf c t) (sym (onState-held h) ∙ answer-refused (onState c t f) Broken .0 e)), λ e. absurd (true≢false e))
       go false h = (λ e. refl, λ e. ap answerOf (onState-broken h))
+
+  -- the numbers: 20, and the operation's
+  pub onState-numbers : (ns : List ℕ) → Refuses ns (f (stateOf c t)) → Refuses (20 ∷ ns) (onState c t f)
+  unfolding onState
+  onState-numbers ns inner = refuses-step {P = not (holds c t) ≡ true} Broken ns (λ e. e, λ e. e) inner
 
 not-refused : {r : Refusal} → Taken ≡ Refused r → ⊥
 not-refused e = let z : _≡_ {A = ℕ} 0 1 = cc in omega arith
@@ -135,6 +140,12 @@ module _ (c : Counters) (t : List ℕ) (i : Idx) where
   pub get-broken : (getCall c t i .answer ≡ Refused Broken) ↔ (holds c t ≡ false)
   unfolding getCall any
   get-broken = broken-exactly c t (λ s. get s (i .0)) (λ s e. false≢true (get-numbers s (i .0) Broken e))
+
+  -- 20 or 2, and no other
+  pub get-call-numbers : (q : Refusal) → getCall c t i .answer ≡ Refused q → elem (numberOf q) (20 ∷ 2 ∷ []) ≡ true
+  unfolding getCall
+  get-call-numbers q e =
+      onState-numbers c t (λ s. get s (i .0)) (2 ∷ []) (get-numbers (stateOf c t) (i .0)) q (answer-refused (onState c t (λ s. get s (i .0))) q .0 e)
 
 -- ---- a batch
 -- a new state laid out, or all as it was
@@ -275,6 +286,22 @@ module _ (c : Counters) (t ws : List ℕ) where
       go true h false w = ((λ e. inr (eqb-false (length ws % 3) 0 w)), λ s. said .1 (outcome-ragged h (ragged-words ws w)))
       go false h d w = ((λ e. inl refl), λ s. said .1 (outcome-broken h))
 
+  -- 20, 2, 3, 5, 4 or 6, and no other
+  pub batch-call-numbers : (q : Refusal) → batchCall c t ws .result .answer ≡ Refused q → elem (numberOf q) (20 ∷ 2 ∷ 3 ∷ 5 ∷ 4 ∷ 6 ∷ []) ≡ true
+  unfolding batchCall outcome any
+  batch-call-numbers q e = go (holds c t) refl (batchOf ws) refl
+    where
+      given : outcome ≡ refused q
+      given = answer-refused outcome q .0 (sym (laidOut-answer c t outcome) ∙ e)
+
+      broken : outcome ≡ refused Broken → elem (numberOf q) (20 ∷ 2 ∷ 3 ∷ 5 ∷ 4 ∷ 6 ∷ []) ≡ true
+      broken f = let same : q ≡ Broken = let g = sym f ∙ given in cc in rw same
+
+      go : (b : Bool) → holds c t ≡ b → (m : Option (List CounterTransition)) → batchOf ws ≡ m → elem (numberOf q) (20 ∷ 2 ∷ 3 ∷ 5 ∷ 4 ∷ 6 ∷ []) ≡ true
+      go true h none w = broken (outcome-ragged h w)
+      go true h (some ts) w = rw (batch-numbers (roomOf t) (stateOf c t) ts q (sym (outcome-held ts h w) ∙ given)) (or-true (eqb (numberOf q) 20))
+      go false h m w = broken (outcome-broken h)
+
 -- ---- shrinking
 module _ (g : Settings) (c : Counters) (t : List ℕ) (saved : ℕ) where
   -- on a record and a table that hold a state the decisions are that state's
@@ -302,6 +329,15 @@ module _ (g : Settings) (c : Counters) (t : List ℕ) (saved : ℕ) where
       go : (o : Outcome State) → (answerOf o ≡ Refused Broken) ↔ (holds c t ≡ false) → (decided g saved c o .answer ≡ Refused Broken) ↔ (holds c t ≡ false)
       go (refused r) h = h
       go (taken s) h = h
+
+  -- and no other
+  pub shrink-numbers : (q : Refusal) → shrinkCall g c t saved .answer ≡ Refused q → elem (numberOf q) (20 ∷ []) ≡ true
+  unfolding shrinkCall decided
+  shrink-numbers q = go (onState c t taken) (onState-numbers c t taken [] (refuses-none [] (stateOf c t)) q)
+    where
+      go : (o : Outcome State) → (o ≡ refused q → elem (numberOf q) (20 ∷ []) ≡ true) → decided g saved c o .answer ≡ Refused q → elem (numberOf q) (20 ∷ []) ≡ true
+      go (refused r) h e = h (ap refused (cc))
+      go (taken s) h e = absurd (not-refused e)
 
   -- so 20 never follows a shrinking that is taken
   pub shrink-taken-holds : shrinkCall g c t saved .answer ≡ Taken → holds (shrinkCall g c t saved .counters) t ≡ true

@@ -3,7 +3,7 @@
 use mathlib.Core.Path.{_≡_, refl, ap, _∙_}
 use mathlib.Core.Bool.{Bool, true, false, _&&_, _||_}
 use mathlib.Core.Option.{Option, none, some}
-use mathlib.Core.List.{List, [], _∷_, reverse, reverse-cons}
+use mathlib.Core.List.{List, [], _∷_, reverse}
 use Prim.Native.Nat.{ℕ, zero, suc, _+_, _*_, _^_, _≤_, _<_}
 use native.Mathlib.Omega.{arith}
 use lib.ListN.{length, length-append, length-reverse}
@@ -18,13 +18,13 @@ use Rattle.base.specs.OutcomeLaws.{refused-taken, taken-same}
 use Rattle.base.specs.declared.Refusal.the-variants.{Present, NurseryFull, TooLong}
 use Rattle.base.specs.Bytes.{cut, readLe, readList}
 use Rattle.base.specs.Laws.{and-left, and-right, and-both, length-digits}
-use Rattle.base.specs.ListLaws.{or-false, all-append, all-weaker, all-take, all-drop}
-use Rattle.base.specs.SumLaws.{all-one}
+use Rattle.base.specs.ListLaws.{or-false, all-weaker, all-take, all-drop}
 use Rattle.base.specs.NumberLaws.{number-below}
 use Rattle.cell_nursery.specs.Entries.{Entry, State, hashBytes, insertBytes}
 use Rattle.cell_nursery.specs.Items.{Delta, itemBytes, readHash, readInsert, deltaOf}
 use Rattle.cell_nursery.specs.Delta.{Room, tooLong, present, full, stateAfter, applyDelta}
 use Rattle.cell_nursery.specs.ItemLaws.{fitsItem, length-hashBytes}
+use Rattle.cell_nursery.specs.ByteLaws.{all-reverse}
 use Rattle.format.specs.Payload.{payloadBytes}
 use Rattle.format.specs.RecordLaws.{Fits}
 
@@ -54,12 +54,6 @@ gives-each (some a) h = gives (h a refl)
 -- ---- bytes, and what is read of them
 abbrev pub Bytes : List ℕ → Type 0
 Bytes bs = all (λ b. ltb b 256) bs ≡ true
-
-module _ {A : Type 0} (p : A → Bool) where
-  all-reverse : (xs : List A) → all p xs ≡ true → all p (reverse xs) ≡ true
-  unfolding all
-  all-reverse [] e = refl
-  all-reverse (x ∷ xs) e = rw (reverse-cons x xs) (all-append p (reverse xs) (x ∷ []) (all-reverse xs (and-right (p x) (all p xs) e)) (all-one p x (and-left (p x) (all p xs) e)))
 
 pub cut-bytes : (n : ℕ) (bs : List ℕ) → Bytes bs → Gives (λ y. (length (y .0) ≡ n) × Bytes (y .0) × Bytes (y .1)) (cut n bs)
 unfolding cut

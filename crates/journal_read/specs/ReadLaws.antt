@@ -22,6 +22,7 @@ use Rattle.cell_nursery.specs.Layout.{recordOf, entriesTable, waitingTable, cel
 use Rattle.cell_nursery.specs.Calls as nursery
 use Rattle.cell_nursery.specs.Calls.{Changed, laid, laidOut, newCall}
 use Rattle.cell_nursery.specs.HashLaws.{U64}
+use Rattle.cell_nursery.specs.ByteLaws.{U8, u8-drop, u8-part}
 use Rattle.cell_nursery.specs.LayoutLaws.{WellFormed, Held, held, length-entriesTable, length-waitingTable, length-cellsTable, stateOf-laid, holds-laid}
 use Rattle.cell_nursery.specs.EntryLaws.{well-empty, well-after, InRoom, room-after}
 use Rattle.format.specs.Record.{Decoding, decode}
@@ -31,7 +32,7 @@ use Rattle.journal.specs.ReadLaws.{readRest, RecordRefused, record-refused, rec
 use Rattle.journal_laws.specs.DeltaLaws.{delta-read, delta-fits, taken-accepted}
 use Rattle.journal_read.specs.declared.Step.{Step}
 use Rattle.journal_read.specs.Reading.{Stepped, stepped, beside, recordOn, recordCall, endOn, readOn}
-use Rattle.journal_read.specs.RecordLaws.{U8, u8-drop, u8-part, not-refused}
+use Rattle.journal_read.specs.RecordLaws.{not-refused}
 
 -- ---- between two records
 -- a journal that is read on from what a record and tables hold

@@ -3,16 +3,12 @@
 use mathlib.Core.Path.{_≡_, refl, sym, ap, _∙_}
 use mathlib.Core.Bool.{true, false}
 use mathlib.Core.List.{List}
-use Prim.Native.Nat.{ℕ, _+_, _-_, _≤_, _<_}
+use Prim.Native.Nat.{ℕ, _+_, _-_, _≤_}
 use native.Mathlib.Omega.{arith}
-use lib.ListN.{length, take, drop, getD}
-use lib.Seq.{getD-drop}
-use lib.Dec.{ltb}
+use lib.ListN.{length, take, drop}
 use Rattle.base.specs.Answers.{Outcome, refused, taken}
-use Rattle.base.specs.ListLaws.{all-take, all-drop}
 use Rattle.base.specs.declared.Refusal.{Refusal}
 use Rattle.base.specs.declared.Answer.the-variants.{Taken, Refused}
-use Rattle.slices.specs.NumberLaws.{all-below}
 use Rattle.cell_nursery.specs.declared.Nursery.{Nursery}
 use Rattle.cell_nursery.specs.Layout.{holds}
 use Rattle.cell_nursery.specs.Calls.{laidOut, onState, deltaCall}
@@ -20,21 +16,7 @@ use Rattle.format.specs.declared.Decoded.{Decoded}
 use Rattle.format.specs.Record.{Decoding, decode}
 use Rattle.format.specs.Calls.{decodedOf, decodeCall}
 use Rattle.format.specs.TakenLaws.{taken-lent}
-use Rattle.journal_laws.specs.DeltaLaws.{Bytes}
 use Rattle.journal_read.specs.Reading.{stepped, beside, recordOn, recordCall}
-
--- each is a byte
-abbrev pub U8 : List ℕ → Type 0
-U8 s = (i : ℕ) → getD s i 0 < 256
-
-pub u8-drop : (n : ℕ) (s : List ℕ) → U8 s → U8 (drop n s)
-u8-drop n s u i = rw (getD-drop n s i 0) (u (n + i))
-
-pub u8-bytes : (s : List ℕ) → U8 s → Bytes s
-u8-bytes s u = all-below 256 s (λ i l. u i)
-
-pub u8-part : (at k : ℕ) (s : List ℕ) → U8 s → Bytes (take k (drop at s))
-u8-part at k s u = all-take (λ b. ltb b 256) k (drop at s) (all-drop (λ b. ltb b 256) at s (u8-bytes s u))
 
 -- ---- decoding's answer
 pub not-refused : {x : Refusal} → Taken ≡ Refused x → ⊥

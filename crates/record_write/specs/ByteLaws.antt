@@ -2,68 +2,48 @@
 -- Assumes nothing.
 use mathlib.Core.Path.{_≡_, refl, sym, ap, _∙_}
 use mathlib.Core.Bool.{true, false}
-use mathlib.Core.List.{List, [], _∷_, _++_, append-assoc, reverse, reverse-append, reverse-reverse}
-use Prim.Native.Nat.{ℕ, zero, suc, _+_, _*_, _≤_, _<_}
+use mathlib.Core.List.{List, [], _∷_, _++_, append-assoc, reverse, reverse-reverse}
+use Prim.Native.Nat.{ℕ, zero, suc, _+_, _*_, _≤_}
 use native.Mathlib.Nat.{mul-suc}
 use native.Mathlib.Omega.{arith}
-use lib.ListN.{length, take, drop, getD, length-append, length-drop, length-reverse}
-use lib.Seq.{paste, take-add, getD-drop, getD-take, length-paste, take-length}
+use lib.ListN.{length, take, drop, length-append, length-drop, length-reverse}
+use lib.Seq.{paste, take-add, length-paste, take-length}
 use lib.Dec.{ltb}
 use borrow.Author.Tests.{ltb-false}
-use Rattle.base.specs.Logic.{all, any, flat, sumOf, overlay}
+use Rattle.base.specs.Logic.{any, flat, sumOf, overlay}
 use Rattle.base.specs.Bytes.{digits, number}
-use Rattle.base.specs.Laws.{length-digits, digits-number, and-left, and-right, and-both}
-use Rattle.base.specs.ListLaws.{all-append, or-false}
+use Rattle.base.specs.Laws.{length-digits, digits-number}
+use Rattle.base.specs.ListLaws.{or-false}
 use Rattle.slices.specs.Laws.{length-part, paste-append, paste-prepend, paste-start, part-paste}
-use Rattle.slices.specs.NumberLaws.{all-below, digits-unle}
+use Rattle.slices.specs.NumberLaws.{digits-unle}
 use Rattle.cell_nursery.specs.Entries.{Entry, cellBytes, hashBytes, insertBytes}
 use Rattle.cell_nursery.specs.ItemLaws.{length-hashBytes}
+use Rattle.cell_nursery.specs.ByteLaws.{all-reverse, U8, u8-drop, u8-part}
 use Rattle.delta_items.specs.Walk.{hashIn, cellLen, cellIn, insertIn, insertLen, insertsIn, insertsFit, longCell, hashesIn}
 use Rattle.delta_items.specs.WalkLaws.{cell-length, fit-head, fit-tail}
 use Rattle.record_write.specs.Laid.{laidAt}
 
--- ---- bytes
-abbrev pub Bytes : List ℕ → Type 0
-Bytes s = (i : ℕ) → getD s i 0 < 256
-
-pub bytes-drop : (n : ℕ) (s : List ℕ) → Bytes s → Bytes (drop n s)
-bytes-drop n s b i = rw (getD-drop n s i 0) (b (n + i))
-
-all-part : (s : List ℕ) (at k : ℕ) → at + k ≤ length s → Bytes s → all (λ x. ltb x 256) (take k (drop at s)) ≡ true
-all-part s at k h b =
-    all-below 256 (take k (drop at s)) (λ i l.
-    let m : length (take k (drop at s)) ≡ k = length-part s at k h in
-    rw (getD-take k (drop at s) i 0 (omega arith), getD-drop at s i 0) (b (at + i)))
-
-all-reverse : (xs : List ℕ) → all (λ x. ltb x 256) xs ≡ true → all (λ x. ltb x 256) (reverse xs) ≡ true
-unfolding all
-all-reverse [] e = refl
-all-reverse (x ∷ xs) e =
-    rw (reverse-append (x ∷ []) xs)
-    (all-append (λ y. ltb y 256) (reverse xs) (x ∷ []) (all-reverse xs (and-right (ltb x 256) (all (λ y. ltb y 256) xs) e))
-    (and-both (ltb x 256) true (and-left (ltb x 256) (all (λ y. ltb y 256) xs) e) refl))
-
 -- ---- items
 
-pub hash-bytes : (bs : List ℕ) → Bytes bs → 32 ≤ length bs → hashBytes (hashIn bs) ≡ take 32 bs
+pub hash-bytes : (bs : List ℕ) → U8 bs → 32 ≤ length bs → hashBytes (hashIn bs) ≡ take 32 bs
 hash-bytes bs b h =
     let x : List ℕ = take 32 bs in
     let l : length (reverse x) ≡ 32 = length-reverse x ∙ length-part bs 0 32 (omega arith) in
-    let d : digits 256 (length (reverse x)) (number 256 (reverse x)) ≡ reverse x = digits-number 256 (reverse x) (all-reverse x (all-part bs 0 32 (omega arith) b)) in
+    let d : digits 256 (length (reverse x)) (number 256 (reverse x)) ≡ reverse x = digits-number 256 (reverse x) (all-reverse (λ y. ltb y 256) x (u8-part 0 32 bs b)) in
     let e : digits 256 32 (number 256 (reverse x)) ≡ reverse x = ap (λ (k : ℕ). digits 256 k (number 256 (reverse x))) (sym l) ∙ d in
     ap reverse e ∙ reverse-reverse x
 
-pub hashes-bytes : (m : ℕ) (bs : List ℕ) → Bytes bs → 32 * m ≤ length bs → flat hashBytes (hashesIn m bs) ≡ take (32 * m) bs
+pub hashes-bytes : (m : ℕ) (bs : List ℕ) → U8 bs → 32 * m ≤ length bs → flat hashBytes (hashesIn m bs) ≡ take (32 * m) bs
 unfolding flat hashesIn
 hashes-bytes zero bs b h = refl
 hashes-bytes (suc m) bs b h =
     let s = mul-suc 32 m in
     let l = length-drop 32 bs in
     let e : 32 * suc m ≡ 32 + 32 * m = omega arith in
-    rw (e, hash-bytes bs b (omega arith), hashes-bytes m (drop 32 bs) (bytes-drop 32 bs b) (omega arith), take-add 32 (32 * m) bs)
+    rw (e, hash-bytes bs b (omega arith), hashes-bytes m (drop 32 bs) (u8-drop 32 bs b) (omega arith), take-add 32 (32 * m) bs)
 
 module _ (w : ℕ) (bs : List ℕ) (whole : insertLen w bs ≤ length bs) where
-  pub insert-bytes : Bytes bs → insertBytes (insertIn w bs) ≡ take 44 bs ++ (digits 256 2 (cellLen w bs) ++ cellIn w bs)
+  pub insert-bytes : U8 bs → insertBytes (insertIn w bs) ≡ take 44 bs ++ (digits 256 2 (cellLen w bs) ++ cellIn w bs)
   unfolding insertBytes insertIn
   insert-bytes b =
       rw (

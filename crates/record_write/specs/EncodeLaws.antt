@@ -23,7 +23,8 @@ use Rattle.format.specs.Payload.{payloadBytes}
 use Rattle.format.specs.Record.{hashed, recordBytes, statsOf, encode}
 use Rattle.format.specs.Calls.{effect, encodedOut, encodeCall}
 use Rattle.record_write.specs.Laid.{laidAt, headBytes, refusedWith}
-use Rattle.record_write.specs.ByteLaws.{Bytes, bytes-drop, hashes-bytes, length-insert-list, length-hash-list, few-cells, laid-three, laid-front, laid-part}
+use Rattle.cell_nursery.specs.ByteLaws.{U8, u8-drop}
+use Rattle.record_write.specs.ByteLaws.{hashes-bytes, length-insert-list, length-hash-list, few-cells, laid-three, laid-front, laid-part}
 
 -- a cell's length has bytes
 width-some : (wide : Bool) → 0 < lengthWidth wide
@@ -157,10 +158,10 @@ module _ (id w n m end payload : ℕ) (items out : List ℕ) (b : Body w n m end
   length-head = simp (length-append, length-digits)
 
   -- the removes stand in the items as they stand in the record
-  removes-part : Bytes items → take (32 * m) (drop end items) ≡ flat hashBytes (hashesIn m (drop (insertsLen w n items) items))
+  removes-part : U8 items → take (32 * m) (drop end items) ≡ flat hashBytes (hashesIn m (drop (insertsLen w n items) items))
   removes-part u =
       let l = length-drop (insertsLen w n items) items in
-      rw (b .place) (sym (hashes-bytes m (drop (insertsLen w n items) items) (bytes-drop (insertsLen w n items) items u) (omega (arith, fit-removes w n m items (b .fit)))))
+      rw (b .place) (sym (hashes-bytes m (drop (insertsLen w n items) items) (u8-drop (insertsLen w n items) items u) (omega (arith, fit-removes w n m items (b .fit)))))
 
   parts : headBytes payload id n m ++ (flat insertBytes (insertsIn w n items) ++ flat hashBytes (hashesIn m (drop (insertsLen w n items) items))) ≡ hashed (payloadBytes id (deltaIn w n m items))
   unfolding hashed payloadBytes itemBytes deltaIn
@@ -168,7 +169,7 @@ module _ (id w n m end payload : ℕ) (items out : List ℕ) (b : Body w n m end
       let p : length (payloadBytes id (deltaIn w n m items)) ≡ payload = length-payload id w n m items (b .fit) ∙ sym (b .stated) in
       rw (p, length-inserts w n items, length-hashes m (drop (insertsLen w n items) items)) (simp append-assoc)
 
-  pub body-laid : Bytes items → (one two : List ℕ) → one ≡ laidAt out 32 (headBytes payload id n m) → two ≡ laidAt one 56 (flat insertBytes (insertsIn w n items))
+  pub body-laid : U8 items → (one two : List ℕ) → one ≡ laidAt out 32 (headBytes payload id n m) → two ≡ laidAt one 56 (flat insertBytes (insertsIn w n items))
       → laidAt two (40 + payload - 32 * m) (take (32 * m) (drop end items)) ≡ laidAt out 32 (hashed (payloadBytes id (deltaIn w n m items)))
   body-laid u one two e f =
       let k = 46 * n + cellBytes (insertsIn w n items) in

@@ -18,7 +18,8 @@ use Rattle.cell_nursery.specs.Entries.{insertBytes}
 use Rattle.delta_items.specs.Walk.{cellLen, cellIn, insertIn, insertLen, insertsIn, insertsLen, insertsFit, insertsFrom, longCell}
 use Rattle.delta_items.specs.WalkLaws.{Left, left-start, left-head, left-next, inserts-turn, inserts-done, long-turn}
 use Rattle.record_write.specs.Laid.{laidAt, headBytes}
-use Rattle.record_write.specs.ByteLaws.{Bytes, bytes-drop, insert-bytes, length-insert, length-laid, laid-append, laid-three}
+use Rattle.cell_nursery.specs.ByteLaws.{U8, u8-drop}
+use Rattle.record_write.specs.ByteLaws.{insert-bytes, length-insert, length-laid, laid-append, laid-three}
 
 -- ---- the head: four numbers
 
@@ -43,7 +44,7 @@ head-laid t a b c d p i n m h e f g k =
 
 -- ---- an insert: what stands before its cell's length, the length, the cell
 
-module _ (w : ℕ) (t a b c items : List ℕ) (to at n h : ℕ) (u : Bytes items) (whole : at + insertLen w (drop at items) ≤ length items)
+module _ (w : ℕ) (t a b c items : List ℕ) (to at n h : ℕ) (u : U8 items) (whole : at + insertLen w (drop at items) ≤ length items)
     (room : to + (46 + n) ≤ length t) (cell : n ≡ cellLen w (drop at items)) (head : h ≡ 44 + w) where
   pub insert-laid : a ≡ laidAt t to (take (at + 44 - at) (drop at items)) → b ≡ paste a (to + 44) (digits 256 2 n) 2
       → c ≡ laidAt b (to + 46) (take (at + h + n - (at + h)) (drop (at + h) items)) → c ≡ laidAt t to (insertBytes (insertIn w (drop at items)))
@@ -65,7 +66,7 @@ module _ (w : ℕ) (t a b c items : List ℕ) (to at n h : ℕ) (u : Bytes items
       let f′ : b ≡ laidAt a (to + 44) y = f ∙ ap (λ (j : ℕ). paste a (to + 44) y j) (sym ly) in
       let six : to + 44 + 2 ≡ to + 46 = omega arith in
       let three : laidAt (laidAt (laidAt t to x) (to + 44) y) (to + 46) z ≡ laidAt t to (x ++ (y ++ z)) = rw six at (laid-three t to x y z 44 2 lx ly (omega arith)) in
-      let bytes : insertBytes (insertIn w bs) ≡ x ++ (y ++ z) = insert-bytes w bs fits (bytes-drop at items u) ∙ ap (λ (k : ℕ). x ++ (digits 256 2 k ++ z)) (sym cell) in
+      let bytes : insertBytes (insertIn w bs) ≡ x ++ (y ++ z) = insert-bytes w bs fits (u8-drop at items u) ∙ ap (λ (k : ℕ). x ++ (digits 256 2 k ++ z)) (sym cell) in
       g ∙ rw (ez, f′, e, ex) (three ∙ ap (λ (l : List ℕ). laidAt t to l) (sym bytes))
 
 -- ---- a loop over the inserts: it is at insert i, at a place of the items and one of the output

@@ -3,7 +3,7 @@
 -- Assumes nothing.
 use mathlib.Core.Path.{_≡_, refl, sym, ap, _∙_}
 use mathlib.Core.Logic.{_↔_}
-use mathlib.Core.Bool.{Bool, true, false, not}
+use mathlib.Core.Bool.{Bool, true, false}
 use mathlib.Core.List.{List, [], _∷_}
 use Prim.Native.Nat.{ℕ, zero, suc, _^_, _≤_, _<_}
 use native.Mathlib.Omega.{arith}
@@ -16,7 +16,7 @@ use Rattle.base.specs.ListLaws.{all-drop}
 use Rattle.base.specs.Logic.{all, any, elem, overlay}
 use Rattle.base.specs.Laws.{and-left, and-right}
 use Rattle.base.specs.Answers.{Outcome, refused, taken, numberOf, answerNumber, answerOf}
-use Rattle.base.specs.OutcomeLaws.{taken-refused, refuses-none, refuses-step, answer-refused}
+use Rattle.base.specs.OutcomeLaws.{taken-refused, refuses-none, answer-refused}
 use Rattle.base.specs.declared.Refusal.{Refusal}
 use Rattle.base.specs.declared.Refusal.the-variants.{Broken, OutputFull}
 use Rattle.base.specs.declared.Answer.{Answer}
@@ -29,7 +29,7 @@ use Rattle.counters.specs.Counts.{State, fresh}
 use Rattle.counters.specs.Layout.{countRow, roomOf, recordOf, stateOf, holds}
 use Rattle.counters.specs.LayoutLaws.{held, length-tableOf, stateOf-laid, holds-laid}
 use Rattle.counters.specs.Calls.{onState, laid, laidOut}
-use Rattle.counters.specs.CallLaws.{onState-held, onState-broken, broken-exactly}
+use Rattle.counters.specs.CallLaws.{onState-held, onState-broken, broken-exactly, onState-numbers}
 use Rattle.snapshot.specs.Write.{snapshotBytes}
 use Rattle.snapshot.specs.Read.{readSnapshot}
 use Rattle.snapshot.specs.Calls.{lengthCall, serializeCall, deserializeCall}
@@ -155,8 +155,9 @@ module _ (c : Counters) (t : List ℕ) where
 
   -- and no other
   pub length-numbers : (q : Refusal) → lengthCall c t .answer ≡ Refused q → elem (numberOf q) (20 ∷ []) ≡ true
-  unfolding lengthCall onState any
-  length-numbers q e = refuses-step {P = not (holds c t) ≡ true} Broken [] (λ f. f, λ f. f) (refuses-none [] (length (snapshotBytes (stateOf c t)))) q (answer-refused measured q .0 e)
+  unfolding lengthCall
+  length-numbers q e =
+      onState-numbers c t (λ s. taken (length (snapshotBytes s))) [] (refuses-none [] (length (snapshotBytes (stateOf c t)))) q (answer-refused measured q .0 e)
 
 -- ---- reading what was written
 module _ (base : ℕ) (s : State) (w : WellFormed s) (t : List ℕ) (room : length (s .counts) ≤ roomOf t) where

@@ -12,13 +12,13 @@ use Rattle.base.specs.Answers.{Outcome, refused, taken, _>>=_, _>>_, refuseIf, 
 use Rattle.base.specs.declared.Refusal.the-variants.{OutputFull, Broken}
 use Rattle.blake3.specs.Spec as blake3
 use Rattle.cell_nursery.specs.Items.{deltaOf}
+use Rattle.cell_nursery.specs.ByteLaws.{U8, u8-bytes}
 use Rattle.cell_nursery.specs.Calls.{lengthWidth}
 use Rattle.format.specs.Record.{Encoding, Decoding, encode, decode}
 use Rattle.format.specs.Calls.{noStats, encodedOut, encodeCall, decodedOf, decodeCall}
 use Rattle.journal.specs.Journal.{readCall}
 use Rattle.journal_laws.specs.LoadLaws.{read-holds}
 use Rattle.journal_laws.specs.EndLaws.{endNumbers, read-ends}
-use Rattle.journal_read.specs.RecordLaws.{U8, u8-bytes}
 use Rattle.state_words.specs.Words.{Unchanged, left}
 use Rattle.word_calls.specs.NurserySaid.{flag}
 use Rattle.word_laws.specs.NurseryKept.{Held, words-held}
