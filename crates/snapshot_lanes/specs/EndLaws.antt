@@ -15,8 +15,7 @@ use Rattle.base.specs.Answers.{Outcome, refused, taken, _>>=_, orRefuse}
 use Rattle.base.specs.declared.Refusal.{Refusal}
 use Rattle.base.specs.declared.Refusal.the-variants.{TornSnapshot, BadBitmap}
 use Rattle.slices.specs.NumberLaws.{cut-at, cut-short, readLe-at, readLe-short}
-use Rattle.roaring.specs.Read.{parse64}
-use Rattle.roaring.specs.Scan.{isSome}
+use Rattle.roaring.specs.Read.{isSome, parse64}
 use Rattle.roaring_cursor.specs.Cursor.{membersOf}
 use Rattle.snapshot_lanes.specs.declared.sets.End.{End}
 use Rattle.snapshot_lanes.specs.declared.sets.End.the-variants.{At, Torn, Bad}
