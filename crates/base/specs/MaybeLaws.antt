@@ -35,6 +35,10 @@ given {P = P} {a = a} g e = go (rw e at g)
     go : Gives P (some a) → P a
     go (gives p) = p
 
+pub gives-each : {A : Type 0} {P : A → Type 0} (o : Option A) → ((a : A) → o ≡ some a → P a) → Gives P o
+gives-each none h = nothing
+gives-each (some a) h = gives (h a refl)
+
 -- ---- steps that gave something
 pub ensure-none : {B : Type 0} (b : Bool) {o : Option B} → o ≡ none → (ensure b >> o) ≡ none
 ensure-none true e = e

@@ -17,7 +17,8 @@ use Rattle.base.specs.Bytes.{unle}
 use Rattle.base.specs.NumberLaws.{number-below}
 use Rattle.cell_nursery.specs.Items.{deltaOf}
 use Rattle.format.specs.Payload.{payloadOf}
-use Rattle.journal_laws.specs.DeltaLaws.{Bytes, Gives, nothing, gives, gives-bind, gives-ensure, gives-each, cut-bytes, le-bytes, delta-read}
+use Rattle.base.specs.MaybeLaws.{Gives, nothing, gives, gives-bind, gives-ensure, gives-each}
+use Rattle.journal_laws.specs.DeltaLaws.{Bytes, cut-bytes, le-bytes, delta-read}
 use Rattle.node_box.specs.Box.{Call, allocate, batch, delta, drain}
 use Rattle.node_box.specs.Demand.{typed}
 use Rattle.box_items.specs.Items.{headerIn, wordsIn, allocateItem, batchItem, deltaItem, drainItem, drainRoom, callOf, itemCall}

@@ -23,7 +23,7 @@ use Rattle.cell_nursery.specs.Drain.{drained, drainBytes, lookup, listin
 use Rattle.cell_nursery.specs.Layout.{roomOf, stateOf, entriesOf, holds, holdsEntries, holdsCells}
 use Rattle.cell_nursery.specs.Calls.{laid, laidOut, onState, lengthWidth, deltaCall, drainedOut, drainCall, foundOf, lookupCall, cellAt, dataOf, dataCall, listingCall}
 use Rattle.cell_nursery.specs.RefusalLaws.{delta-numbers}
-use Rattle.cell_nursery.specs.AnswerLaws.{not-test, and-fails, exactly, missing-here, missing-later, missing-numbers, lent-broken, lent-full, lent-numbers, Answers, says, says-numbers}
+use Rattle.base.specs.AnswerLaws.{not-test, and-fails, exactly, missing-here, missing-later, missing-numbers, lent-broken, lent-full, lent-numbers, Answers, says, says-numbers}
 
 -- a step that is refused where a check fails
 held-or-not : {A : Type 0} (held : Bool) (a : A) → ((refuseIf (not held) Broken >> taken a) ≡ refused Broken) ↔ (held ≡ false)

@@ -1,102 +1,31 @@
 -- Where each waiting row names an entry and no two name the same one (`tied`), the waiting rows, with those that were handed out, are the entries'
 -- rows in some order, and the other way round. So there are never more waiting rows than entries, and as many where nothing was handed out.
 -- Assumes nothing.
-use mathlib.Core.Path.{_≡_, refl, sym, ap, subst, _∙_}
-use mathlib.Core.Bool.{Bool, true, false, not, _&&_, _||_, true≢false, false≢true, or-true}
+use mathlib.Core.Path.{_≡_, refl, sym, ap, _∙_}
+use mathlib.Core.Bool.{Bool, true, false, not, false≢true, or-true}
 use mathlib.Core.Bool.{or-false as or-none}
 use mathlib.Core.List.{List, [], _∷_, _++_, map, append-assoc, map-append, map-map}
-use mathlib.Core.List.{List·Permᴰ as Reordered, List·Permᴰ·nil as order-nil, List·Permᴰ·cons as order-cons, List·Permᴰ·swap as order-swap, List·Permᴰ·trans as order-trans}
-use mathlib.Core.List.{Permᴰ·symm, Permᴰ·append-right, Permᴰ·middle, Permᴰ·map}
-use Prim.Native.Nat.{ℕ, suc, _+_, _≤_, _<_}
+use mathlib.Core.List.{List·Permᴰ as Reordered, List·Permᴰ·nil as order-nil, List·Permᴰ·cons as order-cons, List·Permᴰ·trans as order-trans}
+use mathlib.Core.List.{Permᴰ·symm, Permᴰ·append-right, Permᴰ·map}
+use Prim.Native.Nat.{ℕ, suc, _+_, _≤_}
 use native.Mathlib.Omega.{arith}
-use native.Mathlib.Decide.{decLe, ℕ-discrete}
+use native.Mathlib.Decide.{ℕ-discrete}
 use lib.ListN.{length, length-append, length-map}
-use lib.Dec.{leb, ltb, eqb}
-use borrow.Author.Tests.{lt-ltb, le-ltb, le-leb, lt-leb, eq-eqb, ne-eqb, eqb-true, eqb-false, not-true}
-use Rattle.base.specs.Logic.{pick, all, any, elem, keep, fold, repeated, ascending, ascendingFrom}
-use Rattle.base.specs.Laws.{and-left, and-right, and-both, ascending-head, ascending-tail}
-use Rattle.base.specs.ListLaws.{or-false, Some, here, there, value-order, any-order, all-left, all-weaker, keep-append, keep-empty, keep-order, length-order, repeated-order, eqb-sym}
+use lib.Dec.{eqb}
+use borrow.Author.Tests.{eq-eqb, ne-eqb, eqb-true, eqb-false, not-true}
+use Rattle.base.specs.Logic.{all, any, elem, keep, fold, repeated, ascending}
+use Rattle.base.specs.Laws.{and-left, and-right, and-both}
+use Rattle.base.specs.ListLaws.{or-false, any-order, all-left, all-weaker, keep-append, keep-empty, keep-order, length-order, repeated-order, eqb-sym}
 use Rattle.base.specs.SumLaws.{all-map, keep-map}
 use Rattle.rows.specs.KeyLaws.{putRows}
+use Rattle.base.specs.OrderLaws.{two-parts, every, keep-either, all-order, ascending-once, once-left}
 use Rattle.rows.specs.RowLaws.{keep-absent}
+use Rattle.rows.specs.OrderLaws.{put-between, put-absent}
 use Rattle.cell_nursery.specs.Entries.{Entry, Waiting, State, empty, names, tied, putEntry, insert, remove}
 use Rattle.cell_nursery.specs.Items.{Delta}
 use Rattle.cell_nursery.specs.Delta.{present, stateAfter}
 use Rattle.cell_nursery.specs.Drain.{due, drained}
 use Rattle.cell_nursery.specs.PutLaws.{putWaiting-rows}
-
--- ---- a list in two parts
-module _ {A : Type 0} where
-  -- what one test keeps and what the other keeps, where exactly one of them passes
-  pub two-parts : (p q ok : A → Bool) → ((x : A) → ok x ≡ true → q x ≡ not (p x)) → (xs : List A) → all ok xs ≡ true → Reordered (keep p xs ++ keep q xs) xs
-  unfolding keep all
-  two-parts p q ok h [] a = order-nil
-  two-parts p q ok h (x ∷ xs) a = rw (h x (and-left (ok x) (all ok xs) a)) (go (p x) (two-parts p q ok h xs (and-right (ok x) (all ok xs) a)))
-    where
-      go : (b : Bool) → Reordered (keep p xs ++ keep q xs) xs → Reordered (pick b (x ∷ keep p xs) (keep p xs) ++ pick (not b) (x ∷ keep q xs) (keep q xs)) (x ∷ xs)
-      go true r = order-cons refl r
-      go false r = order-trans (Permᴰ·middle x (keep p xs) (keep q xs)) (order-cons refl r)
-
-  every : (xs : List A) → all (λ x. true) xs ≡ true
-  unfolding all
-  every [] = refl
-  every (x ∷ xs) = every xs
-
-  -- what passes one of two tests that never pass together
-  keep-either : (p q : A → Bool) → ((x : A) → p x ≡ true → q x ≡ false) → (xs : List A) → Reordered (keep p xs ++ keep q xs) (keep (λ x. p x || q x) xs)
-  unfolding keep
-  keep-either p q h [] = order-nil
-  keep-either p q h (x ∷ xs) = go (p x) (q x) (h x) (keep-either p q h xs)
-    where
-      go : (b c : Bool) → (b ≡ true → c ≡ false) → Reordered (keep p xs ++ keep q xs) (keep (λ y. p y || q y) xs)
-          → Reordered (pick b (x ∷ keep p xs) (keep p xs) ++ pick c (x ∷ keep q xs) (keep q xs)) (pick (b || c) (x ∷ keep (λ y. p y || q y) xs) (keep (λ y. p y || q y) xs))
-      go true true k r = absurd (true≢false (k refl))
-      go true false k r = order-cons refl r
-      go false true k r = order-trans (Permᴰ·middle x (keep p xs) (keep q xs)) (order-cons refl r)
-      go false false k r = r
-
-  all-order : {xs ys : List A} (p : A → Bool) → Reordered xs ys → all p xs ≡ all p ys
-  unfolding all
-  all-order p r = value-order (all p) (λ x b. p x && b) (λ x xs. refl) (λ x y b. and-swap (p x) (p y) b) r
-    where
-      and-swap : (a b c : Bool) → (a && (b && c)) ≡ (b && (a && c))
-      and-swap true true c = refl
-      and-swap true false c = refl
-      and-swap false true c = refl
-      and-swap false false c = refl
-
--- a row put among others
-module _ {A : Type 0} (key : A → ℕ) (x : A) (xs : List A) where
-  put-parts : (lo hi : ℕ) (ok : A → Bool) → ((y : A) → ok y ≡ true → leb hi (key y) ≡ not (ltb (key y) lo)) → all ok xs ≡ true
-      → Reordered (putRows key lo hi (x ∷ []) xs) (x ∷ xs)
-  unfolding putRows
-  put-parts lo hi ok h a =
-      order-trans (Permᴰ·middle x (keep (λ e. ltb (key e) lo) xs) (keep (λ e. leb hi (key e)) xs))
-      (order-cons refl (two-parts (λ e. ltb (key e) lo) (λ e. leb hi (key e)) ok h xs a))
-
-  put-between : (i : ℕ) → Reordered (putRows key i i (x ∷ []) xs) (x ∷ xs)
-  put-between i = put-parts i i (λ y. true) (λ y t. other (key y)) (every xs)
-    where
-      other : (k : ℕ) → leb i k ≡ not (ltb k i)
-      other k = elim (decLe i k) [ yes h ↦ rw (le-leb i k h, le-ltb k i h) | no h ↦ rw (lt-leb i k (omega arith), lt-ltb k i (omega arith)) ]
-
-  -- in the place of none
-  put-absent : (i : ℕ) → elem i (map key xs) ≡ false → Reordered (putRows key i (suc i) (x ∷ []) xs) (x ∷ xs)
-  unfolding all any
-  put-absent i a = put-parts i (suc i) (λ y. not (eqb (key y) i)) (λ y t. other (key y) (eqb-false (key y) i (not-true (eqb (key y) i) t))) (absent xs a)
-    where
-      other : (k : ℕ) → (k ≡ i → ⊥) → leb (suc i) k ≡ not (ltb k i)
-      other k ne =
-          elim (decLe i k) [
-            | yes h ↦ rw (le-leb (suc i) k (omega (arith, ne)), le-ltb k i h)
-            | no h ↦ rw (lt-leb (suc i) k (omega arith), lt-ltb k i (omega arith))
-          ]
-
-      absent : (ys : List A) → elem i (map key ys) ≡ false → all (λ e. not (eqb (key e) i)) ys ≡ true
-      absent [] e = refl
-      absent (y ∷ ys) e =
-          let f = or-false (eqb i (key y)) (elem i (map key ys)) e in
-          and-both _ _ (ap not (eqb-sym (key y) i ∙ f .0)) (absent ys (f .1))
 
 -- ---- the waiting rows
 -- the row of an entry that waits
@@ -141,57 +70,8 @@ module _ (gone : List Waiting) (s : State) (w : Waits gone s) where
   number-waits = sym (length-append (s .waiting) gone) ∙ length-order w ∙ length-map (s .entries) waiterFor
 
 -- ---- what a waiting row is
-module _ {A : Type 0} {P : A → Type 0} where
-  some-order : {xs ys : List A} → Reordered xs ys → Some P xs → Some P ys
-  some-order order-nil s = s
-  some-order (order-cons e r) (here p) = here (subst P e p)
-  some-order (order-cons e r) (there s) = there (some-order r s)
-  some-order (order-swap e f) (here p) = there (here (subst P e p))
-  some-order (order-swap e f) (there (here p)) = here (subst P f p)
-  some-order (order-swap e f) (there (there s)) = there (there s)
-  some-order (order-trans r t) s = some-order t (some-order r s)
-
-  some-left : {xs : List A} (ys : List A) → Some P xs → Some P (xs ++ ys)
-  some-left ys (here p) = here p
-  some-left ys (there s) = there (some-left ys s)
-
-some-map : {A B : Type 0} {P : B → Type 0} (f : A → B) (xs : List A) → Some P (map f xs) → Some (λ x. P (f x)) xs
-some-map f [] s = elim s [ ]
-some-map f (x ∷ xs) (here p) = here p
-some-map f (x ∷ xs) (there s) = there (some-map f xs s)
-
--- a number that is absent from a list is absent from its first part, and from ascending numbers above it
-absent-left : (x : ℕ) (xs ys : List ℕ) → elem x (xs ++ ys) ≡ false → elem x xs ≡ false
-unfolding any
-absent-left x [] ys e = refl
-absent-left x (y ∷ xs) ys e = let f = or-false (eqb x y) (elem x (xs ++ ys)) e in rw (f .0) (absent-left x xs ys (f .1))
-
-absent-above : (x lo : ℕ) (xs : List ℕ) → x < lo → ascendingFrom lo xs ≡ true → elem x xs ≡ false
-unfolding any
-absent-above x lo [] l o = refl
-absent-above x lo (y ∷ xs) l o =
-    let m = ascending-head lo y xs o in
-    rw (ne-eqb x y (omega arith)) (absent-above x (suc y) xs (omega arith) (ascending-tail lo y xs o))
-
-ascending-once : (lo : ℕ) (xs : List ℕ) → ascendingFrom lo xs ≡ true → repeated xs ≡ false
-unfolding repeated
-ascending-once lo [] o = refl
-ascending-once lo (x ∷ xs) o = let t = ascending-tail lo x xs o in rw (absent-above x (suc x) xs (omega arith) t) (ascending-once (suc x) xs t)
-
--- no number twice in the first part of a list that has none twice
-once-left : (xs ys : List ℕ) → repeated (xs ++ ys) ≡ false → repeated xs ≡ false
-unfolding repeated
-once-left [] ys e = refl
-once-left (x ∷ xs) ys e =
-    let f = or-false (elem x (xs ++ ys)) (repeated (xs ++ ys)) e in
-    rw (absent-left x xs ys (f .0)) (once-left xs ys (f .1))
-
 module _ (gone : List Waiting) (s : State) (w : Waits gone s) where
-  -- it is that of an entry: its hash, with its round
-  pub waits-entry : (x : Waiting) → Some (λ y. y ≡ x) (s .waiting) → Some (λ e. waiterFor e ≡ x) (s .entries)
-  waits-entry x y = some-map waiterFor (s .entries) (some-order w (some-left gone y))
-
-  -- and no hash waits twice
+  -- no hash waits twice
   pub waits-once : ascending (map (λ e. e .hash) (s .entries)) ≡ true → repeated (map (λ x. x .hash) (s .waiting)) ≡ false
   waits-once o =
       let all-rows : repeated (map (λ x. x .hash) (s .waiting ++ gone)) ≡ repeated (map (λ e. e .hash) (s .entries)) =

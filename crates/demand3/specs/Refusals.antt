@@ -30,7 +30,7 @@ use Rattle.cell_nursery.specs.Items.{Delta, deltaOf}
 use Rattle.cell_nursery.specs.Delta.{Room, applyDelta}
 use Rattle.cell_nursery.specs.Drain.{promotionDelay, drainBytes, listingBytes}
 use Rattle.cell_nursery.specs.Calls.{lengthWidth}
-use Rattle.cell_nursery.specs.AnswerLaws.{exactly, missing-here, missing-numbers, output-full, output-numbers, says, says-numbers}
+use Rattle.base.specs.AnswerLaws.{exactly, missing-here, missing-numbers, output-full, output-numbers, says, says-numbers}
 use Rattle.cell_nursery.specs.RefusalLaws.{IsLong, IsPresent, IsFull, delta-long, delta-present, delta-full, delta-numbers}
 use Rattle.node_box.specs.Box.{Box, Call, allocate, batch, batchRecords, delta, drain, get, shrink, adjust, measure, serialize, lookup, locate, listing, step, countersOf, nurseryOf}
 use Rattle.node_box.specs.Demand.{History, Typed, end}

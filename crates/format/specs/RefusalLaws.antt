@@ -23,7 +23,7 @@ use Rattle.slices.specs.NumberLaws.{readLe-at, readLe-short}
 use Rattle.cell_nursery.specs.Items.{Delta, deltaOf}
 use Rattle.cell_nursery.specs.Delta.{tooLong}
 use Rattle.cell_nursery.specs.Calls.{lengthWidth}
-use Rattle.cell_nursery.specs.AnswerLaws.{exactly, ends-twice, missing-here, missing-later, missing-numbers, Answers, says, says-numbers}
+use Rattle.base.specs.AnswerLaws.{exactly, ends-twice, missing-here, missing-later, missing-numbers, Answers, says, says-numbers}
 use Rattle.cell_nursery.specs.RefusalLaws.{IsLong, long-test}
 use Rattle.format.specs.Payload.{Payload, payloadBytes, payloadOf}
 use Rattle.format.specs.Record.{Encoding, Decoding, recordBytes, statsOf, encode, decode}

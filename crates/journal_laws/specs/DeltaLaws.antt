@@ -2,7 +2,7 @@
 -- Assumes nothing.
 use mathlib.Core.Path.{_≡_, refl, ap, _∙_}
 use mathlib.Core.Bool.{Bool, true, false, _&&_, _||_}
-use mathlib.Core.Option.{Option, none, some}
+use mathlib.Core.Option.{Option, some}
 use mathlib.Core.List.{List, [], _∷_, reverse}
 use Prim.Native.Nat.{ℕ, zero, suc, _+_, _*_, _^_, _≤_, _<_}
 use native.Mathlib.Omega.{arith}
@@ -11,8 +11,7 @@ use lib.Seq.{length-take-le}
 use lib.Dec.{leb, ltb}
 use borrow.Author.Tests.{lt-ltb, leb-true, le-leb, ltb-false}
 use Rattle.base.specs.Logic.{all, any, flat, max32}
-use Rattle.base.specs.Maybe.{_>>=_, ensure}
-use Rattle.base.specs.Maybe.{_>>_ as _then_}
+use Rattle.base.specs.MaybeLaws.{Gives, gives, gives-bind, gives-ensure, given}
 use Rattle.base.specs.Answers.{taken, _>>_, refuseIf}
 use Rattle.base.specs.OutcomeLaws.{refused-taken, taken-same}
 use Rattle.base.specs.declared.Refusal.the-variants.{Present, NurseryFull, TooLong}
@@ -24,32 +23,9 @@ use Rattle.cell_nursery.specs.Entries.{Entry, State, hashBytes, insertBytes}
 use Rattle.cell_nursery.specs.Items.{Delta, itemBytes, readHash, readInsert, deltaOf}
 use Rattle.cell_nursery.specs.Delta.{Room, tooLong, present, full, stateAfter, applyDelta}
 use Rattle.cell_nursery.specs.ItemLaws.{fitsItem, length-hashBytes}
-use Rattle.cell_nursery.specs.ByteLaws.{all-reverse}
+use Rattle.slices.specs.ByteLaws.{all-reverse}
 use Rattle.format.specs.Payload.{payloadBytes}
 use Rattle.format.specs.RecordLaws.{Fits}
-
--- ---- a claim of what is given, if something is
-pub data Gives {A : Type 0} (P : A → Type 0) : Option A → Type 0 where
-  nothing : Gives P none
-  gives : {a : A} → P a → Gives P (some a)
-
-pub gives-bind : {A B : Type 0} {P : A → Type 0} {Q : B → Type 0} {o : Option A} {f : A → Option B} → Gives P o → ((a : A) → P a → Gives Q (f a)) → Gives Q (o >>= f)
-gives-bind nothing h = nothing
-gives-bind (gives {a = a} p) h = h a p
-
-pub gives-ensure : {B : Type 0} {Q : B → Type 0} (t : Bool) {o : Option B} → (t ≡ true → Gives Q o) → Gives Q (ensure t then o)
-gives-ensure true h = h refl
-gives-ensure false h = nothing
-
-pub given : {A : Type 0} {P : A → Type 0} {o : Option A} {a : A} → Gives P o → o ≡ some a → P a
-given {P = P} {a = a} g e = go (rw e at g)
-  where
-    go : Gives P (some a) → P a
-    go (gives p) = p
-
-pub gives-each : {A : Type 0} {P : A → Type 0} (o : Option A) → ((a : A) → o ≡ some a → P a) → Gives P o
-gives-each none h = nothing
-gives-each (some a) h = gives (h a refl)
 
 -- ---- bytes, and what is read of them
 abbrev pub Bytes : List ℕ → Type 0

@@ -29,13 +29,14 @@ use Rattle.cell_nursery.specs.Delta.{Room, tooLong, present, full, stateAfter, 
 use Rattle.cell_nursery.specs.Layout.{roomOf}
 use Rattle.cell_nursery.specs.ItemLaws.{delta-counts}
 use Rattle.cell_nursery.specs.RefusalLaws.{delta-numbers}
-use Rattle.cell_nursery.specs.AnswerLaws.{exactly}
+use Rattle.base.specs.AnswerLaws.{exactly}
 use Rattle.format.specs.Record.{Decoding, decode}
 use Rattle.format.specs.RefusalLaws.{itemsOf, stated, payload, Whole, Matches, payload-some, decode-short, decode-far, decode-mismatch, decode-misfit, decode-taken, decode-numbers}
 use Rattle.format.specs.TakenLaws.{taken-lent}
 use Rattle.journal.specs.Journal.{End, applyRecord, readJournal, readCall}
 use Rattle.journal.specs.ReadLaws.{RecordRefused, record-refused, record-taken, Stopped, at-end, at-record, reading-ends}
-use Rattle.journal_laws.specs.DeltaLaws.{Gives, gives, gives-bind, given, Bytes, cut-bytes, le-bytes, hash-bytes, list-bytes}
+use Rattle.base.specs.MaybeLaws.{Gives, gives, gives-bind, given}
+use Rattle.journal_laws.specs.DeltaLaws.{Bytes, cut-bytes, le-bytes, hash-bytes, list-bytes}
 
 -- ---- a record's delta is never too long: a cell's length has two bytes, a list's four
 insert-short : (bs : List ℕ) → Bytes bs → Gives (λ y. (leb (length (y .0 .cell)) 65535 ≡ true) × Bytes (y .1)) (readInsert 2 bs)

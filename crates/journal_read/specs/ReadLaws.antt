@@ -22,7 +22,7 @@ use Rattle.cell_nursery.specs.Layout.{recordOf, entriesTable, waitingTable, cel
 use Rattle.cell_nursery.specs.Calls as nursery
 use Rattle.cell_nursery.specs.Calls.{Changed, laid, laidOut, newCall}
 use Rattle.cell_nursery.specs.HashLaws.{U64}
-use Rattle.cell_nursery.specs.ByteLaws.{U8, u8-drop, u8-part}
+use Rattle.slices.specs.ByteLaws.{U8, u8-drop, u8-part}
 use Rattle.cell_nursery.specs.LayoutLaws.{WellFormed, Held, held, length-entriesTable, length-waitingTable, length-cellsTable, stateOf-laid, holds-laid}
 use Rattle.cell_nursery.specs.EntryLaws.{well-empty, well-after, InRoom, room-after}
 use Rattle.format.specs.Record.{Decoding, decode}

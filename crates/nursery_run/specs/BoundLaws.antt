@@ -15,7 +15,7 @@ use Rattle.base.specs.SumLaws.{or-left, or-right}
 use Rattle.rows.specs.declared.Wide.{Wide}
 use Rattle.rows.specs.Wide.{keyOf}
 use Rattle.cell_nursery.specs.ItemLaws.{fitsItem, fits-item}
-use Rattle.cell_nursery.specs.ByteLaws.{U8, u8-drop, part-below, hash-below}
+use Rattle.slices.specs.ByteLaws.{U8, u8-drop, part-below, hash-below}
 use Rattle.delta_items.specs.Walk.{hashIn, idxIn, bornIn, cellLen, insertIn, insertLen, insertsIn, insertsFit, longCell}
 use Rattle.delta_items.specs.WalkLaws.{fit-head, fit-tail}
 use Rattle.nursery_steps.specs.Steps.{newEntry}

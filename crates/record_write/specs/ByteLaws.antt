@@ -18,7 +18,7 @@ use Rattle.slices.specs.Laws.{length-part, paste-append, paste-prepend, paste-s
 use Rattle.slices.specs.NumberLaws.{digits-unle}
 use Rattle.cell_nursery.specs.Entries.{Entry, cellBytes, hashBytes, insertBytes}
 use Rattle.cell_nursery.specs.ItemLaws.{length-hashBytes}
-use Rattle.cell_nursery.specs.ByteLaws.{all-reverse, U8, u8-drop, u8-part}
+use Rattle.slices.specs.ByteLaws.{all-reverse, U8, u8-drop, u8-part}
 use Rattle.delta_items.specs.Walk.{hashIn, cellLen, cellIn, insertIn, insertLen, insertsIn, insertsFit, longCell, hashesIn}
 use Rattle.delta_items.specs.WalkLaws.{cell-length, fit-head, fit-tail}
 use Rattle.record_write.specs.Laid.{laidAt}

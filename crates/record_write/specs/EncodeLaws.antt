@@ -23,7 +23,7 @@ use Rattle.format.specs.Payload.{payloadBytes}
 use Rattle.format.specs.Record.{hashed, recordBytes, statsOf, encode}
 use Rattle.format.specs.Calls.{effect, encodedOut, encodeCall}
 use Rattle.record_write.specs.Laid.{laidAt, headBytes, refusedWith}
-use Rattle.cell_nursery.specs.ByteLaws.{U8, u8-drop}
+use Rattle.slices.specs.ByteLaws.{U8, u8-drop}
 use Rattle.record_write.specs.ByteLaws.{hashes-bytes, length-insert-list, length-hash-list, few-cells, laid-three, laid-front, laid-part}
 
 -- a cell's length has bytes

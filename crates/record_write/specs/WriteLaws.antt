@@ -18,7 +18,7 @@ use Rattle.cell_nursery.specs.Entries.{insertBytes}
 use Rattle.delta_items.specs.Walk.{cellLen, cellIn, insertIn, insertLen, insertsIn, insertsLen, insertsFit, insertsFrom, longCell}
 use Rattle.delta_items.specs.WalkLaws.{Left, left-start, left-head, left-next, inserts-turn, inserts-done, long-turn}
 use Rattle.record_write.specs.Laid.{laidAt, headBytes}
-use Rattle.cell_nursery.specs.ByteLaws.{U8, u8-drop}
+use Rattle.slices.specs.ByteLaws.{U8, u8-drop}
 use Rattle.record_write.specs.ByteLaws.{insert-bytes, length-insert, length-laid, laid-append, laid-three}
 
 -- ---- the head: four numbers

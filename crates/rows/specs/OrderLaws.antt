@@ -1,15 +1,18 @@
 -- Rows put in their place by key, for rows of any kind: put twice, put at two places, and what stays true of the rows.
 -- Assumes nothing.
-use mathlib.Core.Path.{_≡_, sym, ap₂, _∙_}
-use mathlib.Core.Bool.{Bool, true, false, _&&_}
-use mathlib.Core.List.{List, _++_, map, append-assoc, append-nil}
-use Prim.Native.Nat.{ℕ, _≤_, zero-le}
+use mathlib.Core.Path.{_≡_, refl, sym, ap, ap₂, _∙_}
+use mathlib.Core.Bool.{Bool, true, false, not, _&&_}
+use mathlib.Core.List.{List, [], _∷_, _++_, map, append-assoc, append-nil}
+use mathlib.Core.List.{List·Permᴰ as Reordered, List·Permᴰ·cons as order-cons, List·Permᴰ·trans as order-trans, Permᴰ·middle}
+use Prim.Native.Nat.{ℕ, suc, _≤_, zero-le}
 use native.Mathlib.Omega.{arith}
-use lib.Dec.{leb, ltb}
-use borrow.Author.Tests.{le-ltb, lt-ltb, le-leb, lt-leb, leb-true, ltb-true}
-use Rattle.base.specs.Logic.{all, keep, ascendingFrom}
-use Rattle.base.specs.Laws.{and-left, and-right}
-use Rattle.base.specs.ListLaws.{all-weaker, all-kept, keep-append, keep-whole, keep-empty, keep-swap, keep-narrow, ascending-append, ascending-keep, ascending-from}
+use native.Mathlib.Decide.{decLe}
+use lib.Dec.{leb, ltb, eqb}
+use borrow.Author.Tests.{le-ltb, lt-ltb, le-leb, lt-leb, leb-true, ltb-true, eqb-false, not-true}
+use Rattle.base.specs.Logic.{all, any, elem, keep, ascendingFrom}
+use Rattle.base.specs.Laws.{and-left, and-right, and-both}
+use Rattle.base.specs.OrderLaws.{two-parts, every}
+use Rattle.base.specs.ListLaws.{or-false, eqb-sym, all-weaker, all-kept, keep-append, keep-whole, keep-empty, keep-swap, keep-narrow, ascending-append, ascending-keep, ascending-from}
 use Rattle.rows.specs.KeyLaws.{putRows}
 
 -- ---- the tests of a key k against two bounds
@@ -110,3 +113,36 @@ module _ {E : Type 0} (key : E → ℕ) where
       ap₂ (λ (x y : List E). x ++ (new′ ++ y)) (below-behind lo hi new es a d lo′ b) (from-put lo hi new es a d hi′ (omega arith))
       ∙ regroup
       ∙ sym (ap₂ (λ (x y : List E). x ++ (new ++ y)) (below-put lo′ hi′ new′ es c e lo (omega arith)) (from-before lo′ hi′ new′ es c e hi b))
+
+-- ---- a row put among others, in another order
+module _ {A : Type 0} (key : A → ℕ) (x : A) (xs : List A) where
+  pub put-parts : (lo hi : ℕ) (ok : A → Bool) → ((y : A) → ok y ≡ true → leb hi (key y) ≡ not (ltb (key y) lo)) → all ok xs ≡ true
+      → Reordered (putRows key lo hi (x ∷ []) xs) (x ∷ xs)
+  unfolding putRows
+  put-parts lo hi ok h a =
+      order-trans (Permᴰ·middle x (keep (λ e. ltb (key e) lo) xs) (keep (λ e. leb hi (key e)) xs))
+      (order-cons refl (two-parts (λ e. ltb (key e) lo) (λ e. leb hi (key e)) ok h xs a))
+
+  pub put-between : (i : ℕ) → Reordered (putRows key i i (x ∷ []) xs) (x ∷ xs)
+  put-between i = put-parts i i (λ y. true) (λ y t. other (key y)) (every xs)
+    where
+      other : (k : ℕ) → leb i k ≡ not (ltb k i)
+      other k = elim (decLe i k) [ yes h ↦ rw (le-leb i k h, le-ltb k i h) | no h ↦ rw (lt-leb i k (omega arith), lt-ltb k i (omega arith)) ]
+
+  -- in the place of none
+  pub put-absent : (i : ℕ) → elem i (map key xs) ≡ false → Reordered (putRows key i (suc i) (x ∷ []) xs) (x ∷ xs)
+  unfolding all any
+  put-absent i a = put-parts i (suc i) (λ y. not (eqb (key y) i)) (λ y t. other (key y) (eqb-false (key y) i (not-true (eqb (key y) i) t))) (absent xs a)
+    where
+      other : (k : ℕ) → (k ≡ i → ⊥) → leb (suc i) k ≡ not (ltb k i)
+      other k ne =
+          elim (decLe i k) [
+            | yes h ↦ rw (le-leb (suc i) k (omega (arith, ne)), le-ltb k i h)
+            | no h ↦ rw (lt-leb (suc i) k (omega arith), lt-ltb k i (omega arith))
+          ]
+
+      absent : (ys : List A) → elem i (map key ys) ≡ false → all (λ e. not (eqb (key e) i)) ys ≡ true
+      absent [] e = refl
+      absent (y ∷ ys) e =
+          let f = or-false (eqb i (key y)) (elem i (map key ys)) e in
+          and-both _ _ (ap not (eqb-sym (key y) i ∙ f .0)) (absent ys (f .1))

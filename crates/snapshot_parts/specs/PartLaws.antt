@@ -17,8 +17,8 @@ use Rattle.rows.specs.TableLaws.{length-rowsOf}
 use Rattle.roaring_rows.specs.RowMembers as row
 use Rattle.roaring_rows.specs.RowLaws.{members-rows}
 use Rattle.roaring.specs.Write.{write64}
-use Rattle.roaring_rows.specs.PlaceLaws.{putAt-append, putAt-next}
-use Rattle.roaring_rows.specs.Places.{putAt}
+use Rattle.slices.specs.PlaceLaws.{putAt-append, putAt-next}
+use Rattle.slices.specs.Places.{putAt}
 use Rattle.roaring_rows.specs.DataLaws.{put-digits}
 use Rattle.counters.specs.declared.Counters.{Counters}
 use Rattle.counters.specs.Counts.{smallCode, inSet, members, large}

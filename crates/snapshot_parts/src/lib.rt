@@ -11,7 +11,7 @@ ghost use Prim.Native.Nat.{_+_, _^_, _≤_, _<_};
 ghost use lib.ListN.{length};
 ghost use Rattle.base.specs.Bytes.{le64};
 ghost use Rattle.rows.specs.Table.{rowsOf};
-ghost use Rattle.roaring_rows.specs.Places.{putAt};
+ghost use Rattle.slices.specs.Places.{putAt};
 ghost use Rattle.counters.specs.Layout.{countRow};
 ghost use Rattle.counters.specs.Held.{InOrder};
 ghost use Rattle.snapshot.specs.Write.{setBytes};

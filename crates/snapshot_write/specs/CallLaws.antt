@@ -10,7 +10,7 @@ use Rattle.base.specs.Output.{effect, fitting, put, written}
 use Rattle.base.specs.declared.Answer.the-variants.{Taken, Refused}
 use Rattle.base.specs.declared.Refusal.the-variants.{OutputFull, Broken}
 use Rattle.slices.specs.Laws.{paste-start}
-use Rattle.roaring_rows.specs.Places.{putAt}
+use Rattle.slices.specs.Places.{putAt}
 use Rattle.counters.specs.declared.Counters.{Counters}
 use Rattle.counters.specs.Layout.{stateOf, holds}
 use Rattle.counters.specs.Calls.{onState}

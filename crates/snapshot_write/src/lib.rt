@@ -16,7 +16,7 @@ ghost use mathlib.Core.Bool.{true};
 ghost use Prim.Native.Nat.{_≤_};
 ghost use lib.ListN.{length};
 ghost use Rattle.base.specs.Output.{effect};
-ghost use Rattle.roaring_rows.specs.Places.{putAt};
+ghost use Rattle.slices.specs.Places.{putAt};
 ghost use Rattle.counters.specs.Layout.{stateOf};
 ghost use Rattle.counters.specs.Layout as layout;
 ghost use Rattle.snapshot.specs.Write.{snapshotBytes};

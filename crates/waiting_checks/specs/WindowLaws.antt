@@ -13,6 +13,7 @@ use borrow.Author.Tests.{le-leb, lt-leb, leb-true, leb-false, not-true, eq-eqb, 
 use Rattle.base.specs.Logic.{pick, all, any, keep, elem, repeated, zeros}
 use Rattle.base.specs.Laws.{and-left, and-right}
 use Rattle.base.specs.ListLaws.{eqb-sym}
+use Rattle.base.specs.OrderLaws.{any-or, any-none, keep-both}
 use Rattle.waiting_checks.specs.Marks.{isMarked, withMark, within, passes, marksWith, clean, cleanWithin}
 use Rattle.waiting_checks.specs.MarkLaws.{none-marked, mark-here, mark-other}
 
@@ -48,22 +49,6 @@ seen-more lo m seen k s h l free =
 pub within-bounds : (lo k : ℕ) → within lo k ≡ true → (lo ≤ k) × (k < lo + 65536)
 unfolding within
 within-bounds lo k e = (leb-true lo k (and-left _ _ e), leb-false (lo + 65536) k (not-true _ (and-right (leb lo k) _ e)))
-
-any-or : {A : Type 0} (p q : A → Bool) (xs : List A) → any (λ x. p x || q x) xs ≡ (any p xs || any q xs)
-unfolding any
-any-or p q [] = refl
-any-or p q (x ∷ xs) = rw (any-or p q xs) (go (p x) (q x) (any p xs) (any q xs))
-  where
-    go : (a b c d : Bool) → ((a || b) || (c || d)) ≡ ((a || c) || (b || d))
-    go true b c d = refl
-    go false true true d = refl
-    go false true false d = refl
-    go false false c d = refl
-
-any-none : {A : Type 0} (xs : List A) → any (λ x. false) xs ≡ false
-unfolding any
-any-none [] = refl
-any-none (x ∷ xs) = any-none xs
 
 -- some of the places are among those seen
 abbrev again : List ℕ → List ℕ → Bool
@@ -133,17 +118,6 @@ module _ {A : Type 0} (key : A → ℕ) (ok : A → Bool) (lo : ℕ) where
       window-passes (zeros 1024) [] xs (none-seen lo) ∙ rw (none-again ks) (and-true _)
 
 -- ---- all windows
-module _ {A : Type 0} where
-  keep-both : (p q : A → Bool) (xs : List A) → keep p (keep q xs) ≡ keep (λ x. q x && p x) xs
-  unfolding keep
-  keep-both p q [] = refl
-  keep-both p q (x ∷ xs) = go (q x) (keep-both p q xs)
-    where
-      go : (b : Bool) → keep p (keep q xs) ≡ keep (λ y. q y && p y) xs
-          → keep p (pick b (x ∷ keep q xs) (keep q xs)) ≡ pick (b && p x) (x ∷ keep (λ y. q y && p y) xs) (keep (λ y. q y && p y) xs)
-      go true r = ap (λ (l : List A). pick (p x) (x ∷ l) l) r
-      go false r = r
-
 module _ {A : Type 0} (key : A → ℕ) (ok : A → Bool) where
   -- a place is among those that a test of places keeps, where the test keeps it
   elem-kept : (p : ℕ → Bool) (k : ℕ) (xs : List A) → p k ≡ true → elem k (map key (keep (λ x. p (key x)) xs)) ≡ elem k (map key xs)

@@ -12,7 +12,7 @@ use Rattle.base.specs.Answers.{Outcome, refused, taken, _>>=_, _>>_, refuseIf, 
 use Rattle.base.specs.declared.Refusal.the-variants.{OutputFull, Broken}
 use Rattle.blake3.specs.Spec as blake3
 use Rattle.cell_nursery.specs.Items.{deltaOf}
-use Rattle.cell_nursery.specs.ByteLaws.{U8, u8-bytes}
+use Rattle.slices.specs.ByteLaws.{U8, u8-bytes}
 use Rattle.cell_nursery.specs.Calls.{lengthWidth}
 use Rattle.format.specs.Record.{Encoding, Decoding, encode, decode}
 use Rattle.format.specs.Calls.{noStats, encodedOut, encodeCall, decodedOf, decodeCall}

@@ -11,7 +11,7 @@ use Rattle.cell_nursery.specs.ItemLaws.{fitsItem}
 use Rattle.cell_nursery.specs.LayoutLaws.{Held, held}
 use Rattle.delta_items.specs.Walk.{insertsLen, itemsFit, deltaIn}
 use Rattle.delta_items.specs.WalkLaws.{removes-at, removes-past, fit-inserts}
-use Rattle.cell_nursery.specs.ByteLaws.{U8}
+use Rattle.slices.specs.ByteLaws.{U8}
 use Rattle.nursery_run.specs.BoundLaws.{inserts-fit}
 use Rattle.nursery_commit.specs.CommitLaws.{commit-past, commit-long, commit-present, commit-full, commit-taken, present-same, full-same, short-cells, heads-fit}
 use mathlib.Core.Path.{_≡_, sym, ap, _∙_}

@@ -9,8 +9,8 @@ use borrow.Author.Needs.{needs}
 use lib.ListN.{length, getD, length-append}
 use Rattle.base.specs.Bytes.{le64}
 use Rattle.base.specs.Laws.{length-digits}
-use Rattle.roaring_rows.specs.PlaceLaws.{putAt-none, length-putAt}
-use Rattle.roaring_rows.specs.Places.{putAt}
+use Rattle.slices.specs.PlaceLaws.{putAt-none, length-putAt}
+use Rattle.slices.specs.Places.{putAt}
 use Rattle.snapshot_parts.specs.PartLaws.{put-next, large-next, large-skip, large-length, large-end}
 use Rattle.snapshot_parts.specs.Parts.{largeFrom}
 use Rattle.snapshot_parts.proofs.write_large.Statement.{statement}

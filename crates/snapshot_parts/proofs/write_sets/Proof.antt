@@ -6,8 +6,8 @@ use native.Mathlib.Omega.{arith}
 use lib.ListN.{length}
 use mathlib.Core.List.{List}
 use Rattle.rows.specs.Table.{rowsOf}
-use Rattle.roaring_rows.specs.PlaceLaws.{putAt-none}
-use Rattle.roaring_rows.specs.Places.{putAt}
+use Rattle.slices.specs.PlaceLaws.{putAt-none}
+use Rattle.slices.specs.Places.{putAt}
 use Rattle.counters.specs.Layout.{countRow}
 use Rattle.snapshot.specs.Write.{setBytes}
 use Rattle.snapshot_parts.specs.PartLaws.{put-next, sets-next, sets-length, sets-end}
