@@ -107,7 +107,7 @@ and-yes false c e = refl
 
 pub append-none : (o : Output) → append [] o ≡ o
 unfolding append
-append-none o = 
+append-none o =
     let at = o .printed .len in
     let n = min 0 (length (o .out) - at) in
     let z : n ≡ 0 = omega arith in
