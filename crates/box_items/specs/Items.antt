@@ -1,12 +1,12 @@
--- House items, each a body length, a kind and a body: the call that an item stands for, and the lines that a run prints.
+-- House items, each a body length, a kind and a body: the call that an item stands for, and what a run of them prints.
 -- Assumes nothing.
 use Prim.Native.Nat.{ℕ, zero, suc, _+_, _*_, _/_, _%_}
 use mathlib.Core.Bool.{Bool, true, false}
 use mathlib.Core.Option.{Option, none, some}
-use mathlib.Core.List.{List, [], _∷_}
+use mathlib.Core.List.{List, [], _∷_, _++_}
 use lib.ListN.{length, take, drop}
 use lib.Dec.{leb, eqb}
-use Rattle.base.specs.Logic.{pick, zeros}
+use Rattle.base.specs.Logic.{pick, flat, zeros}
 use Rattle.base.specs.Maybe.{_>>=_, _>>_, ensure}
 use Rattle.base.specs.Bytes.{unle, cut}
 use Rattle.base.specs.Answers.{answerNumber}
@@ -17,8 +17,9 @@ use Rattle.counters.specs.declared.Counters.{Counters}
 use Rattle.cell_nursery.specs.declared.Nursery.{Nursery}
 use Rattle.format.specs.Payload.{payloadOf}
 use Rattle.node_box.specs.Box.{Box, Call, allocate, batch, delta, drain, made, step}
-use Rattle.box_items.specs.declared.Header.{Header}
-use Rattle.box_items.specs.declared.Line.{Line}
+use Rattle.box_lines.specs.declared.Line.{Line}
+use Rattle.box_lines.specs.Lines.{kindOf, bodyLen, lineText, heading}
+use Rattle.box_items.specs.declared.Next.{Next}
 use Rattle.box_items.specs.declared.Ran.{Ran}
 
 -- ---- the call of a kind and a body; none where the item is bad
@@ -78,14 +79,33 @@ unfoldable pub ran : Box → Option Call → Ended
 ran b none = record { good = false; answer = Refused Broken; box = b }
 ran b (some c) = let s = step b c in record { good = true; answer = s .0; box = s .1 }
 
--- ---- a header, and a line
+-- ---- the item that bytes begin with
 
-abbrev pub headerIn : List ℕ → Header
-headerIn bs = record { len = unle (take 4 bs); kind = unle (take 2 (drop 4 bs)) }
+-- its body is what follows the six bytes, as long as they say; the item is bad where it isn't all there
+unfoldable pub itemCall : List ℕ → Option Call
+itemCall bs = do
+  ensure (leb 6 (length bs))
+  (body, r) ← cut (bodyLen bs) (drop 6 bs)
+  callOf (kindOf bs) body
 
 -- beside every answer stand the next index and live total as they are then
 abbrev pub lineOf : ℕ → ℕ → Answer → Counters → Line
 lineOf place kind answer c = record { place = place; kind = kind; answer = answerNumber answer; next = c .«next_idx» .0; live = c .«live_cells» }
+
+-- its line, whether it was good, and the box after it
+pub record Turn : Type 0 where
+  pub line : Line
+  pub good : Bool
+  pub box : Box
+
+-- running it, for the contract: what it returned, and the tables as it left them
+abbrev pub turned : Next → List ℕ → List ℕ → List ℕ → List ℕ → Turn
+turned r t es ws cs = record { line = r .line; good = r .good; box = boxOf (r .counters) t (r .nursery) es ws cs }
+
+unfoldable pub turn : Box → ℕ → List ℕ → Turn
+turn b place bs =
+    let e = ran b (itemCall bs) in
+    record { line = lineOf place (kindOf bs) (e .answer) (e .box .counters); good = e .good; box = e .box }
 
 -- ---- a run
 
@@ -93,24 +113,20 @@ lineOf place kind answer c = record { place = place; kind = kind; answer = answe
 unfoldable pub runBox : Box
 runBox = made 0 (zeros (2 * 1024)) (zeros (8 * 256)) (zeros (5 * 256)) (zeros 16384)
 
--- the body is what follows the header, as long as it says; the item is bad where it isn't all there
-unfoldable pub itemCall : List ℕ → Option Call
-itemCall bs = do
-  (body, r) ← cut (headerIn bs .len) (drop 6 bs)
-  callOf (headerIn bs .kind) body
-
--- what is printed for bytes from an item's place on: a line for each item, up to the first bad one. A header that isn't all there is of kind 0.
--- An item has six bytes at least, so that `fuel` as large as the input is enough
+-- the lines for bytes from an item's place on: one for each item, up to the first bad one.
+-- A good item has six bytes at least, so that `fuel` as large as the input is enough
 unfoldable pub linesFrom : ℕ → Box → ℕ → List ℕ → List Line
 linesFrom zero b place bs = []
 linesFrom (suc fuel) b place [] = []
 linesFrom (suc fuel) b place (x ∷ xs) =
     let bs = x ∷ xs in
-    let e = ran b (itemCall bs) in
-    pick (leb 6 (length bs))
-    (lineOf place (headerIn bs .kind) (e .answer) (e .box .counters) ∷ pick (e .good) (linesFrom fuel (e .box) (suc place) (drop (6 + headerIn bs .len) bs)) [])
-    (lineOf place 0 (Refused Broken) (b .counters) ∷ [])
+    let t = turn b place bs in
+    t .line ∷ pick (t .good) (linesFrom fuel (t .box) (suc place) (drop (6 + bodyLen bs) bs)) []
 
 -- the lines of an input
 unfoldable pub lines : List ℕ → List Line
 lines bs = linesFrom (length bs) runBox 0 bs
+
+-- all that is printed for it
+unfoldable pub text : List ℕ → List ℕ
+text bs = heading ++ flat lineText (lines bs)

@@ -11,8 +11,9 @@ use Rattle.cell_nursery.specs.Open.{evaluation as cell-nursery-evaluation}
 use Rattle.format.specs.Open.{evaluation as format-evaluation}
 use Rattle.journal.specs.Open.{evaluation as journal-evaluation}
 use Rattle.node_box.specs.Open.{evaluation as node-box-evaluation}
-use Rattle.box_items.specs.Items.{allocateItem, wordsIn, batchItem, deltaItem, drainRoom, drainItem, callOf, ran, runBox, itemCall, linesFrom, lines}
+use Rattle.box_lines.specs.Open.{evaluation as box-lines-evaluation}
+use Rattle.box_items.specs.Items.{allocateItem, wordsIn, batchItem, deltaItem, drainRoom, drainItem, callOf, ran, itemCall, turn, runBox, linesFrom, lines, text}
 
 unfoldable pub evaluation : Unit {0}
-unfolding base-evaluation rows-evaluation blake3-compress-evaluation blake3-evaluation roaring-evaluation counters-evaluation snapshot-evaluation cell-nursery-evaluation format-evaluation journal-evaluation node-box-evaluation allocateItem wordsIn batchItem deltaItem drainRoom drainItem callOf ran runBox itemCall linesFrom lines
+unfolding base-evaluation rows-evaluation blake3-compress-evaluation blake3-evaluation roaring-evaluation counters-evaluation snapshot-evaluation cell-nursery-evaluation format-evaluation journal-evaluation node-box-evaluation box-lines-evaluation allocateItem wordsIn batchItem deltaItem drainRoom drainItem callOf ran itemCall turn runBox linesFrom lines text
 evaluation = tt

@@ -7,7 +7,7 @@ use lib.ListN.{length}
 use Rattle.base.specs.Logic.{zeros}
 use Rattle.base.specs.Bytes.{le16, le32, le64}
 use Rattle.node_box.specs.Box.{made}
-use Rattle.box_items.specs.declared.Line.{Line}
+use Rattle.box_lines.specs.declared.Line.{Line}
 use Rattle.box_items.specs.Items.{linesFrom}
 use Rattle.box_items.specs.Open.{evaluation}
 

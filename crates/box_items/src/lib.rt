@@ -1,8 +1,10 @@
-// House items, as boxrun replays them: an item's header from its six bytes, the call that its kind and body stand for, run on a
-// box's records and lent tables, and the numbers of the line that is printed for it. The program above only reads and prints.
+// House items, as boxrun replays them: the item that bytes begin with, the call that its kind and body stand for, run on a box's
+// records and lent tables, and the numbers of the line that is printed for it.
 use base::Answer;
 use base::Refusal;
-use byte_numbers::read_le16;
+use box_lines::Line;
+use box_lines::body_len;
+use box_lines::kind_of;
 use byte_numbers::read_le32;
 use byte_numbers::read_le64;
 use cell_nursery::Nursery;
@@ -14,43 +16,26 @@ ghost use Prim.Native.Nat.{ℕ, _*_, _≤_};
 ghost use lib.ListN.{length};
 ghost use lib.Seq.{paste};
 ghost use Rattle.delta_items.specs.Walk.{itemsFit};
-ghost use Rattle.box_items.specs.Items.{badItem, effect, boxOf, ran, wordsIn, allocateItem, batchItem, deltaItem, drainItem, callOf, headerIn, lineOf};
-
-// What an item's first six bytes say.
-pub struct Header {
-    pub len: u32,
-    pub kind: u16,
-}
+ghost use Rattle.box_items.specs.Items.{badItem, effect, boxOf, ran, wordsIn, allocateItem, batchItem, deltaItem, drainItem, callOf, itemCall, lineOf, turned, turn};
 
 // What running an item returns: whether it stands for a call, the answer, and the box's records after it. A bad item's answer is 20.
-pub struct Ran {
+struct Ran {
     pub good: bool,
     pub answer: Answer,
     pub counters: Counters,
     pub nursery: Nursery,
 }
 
-// A printed line: the item's place and kind, the answer's number, and the next index and live total as they are then.
-pub struct Line {
-    pub place: u64,
-    pub kind: u16,
-    pub answer: u8,
-    pub next: u64,
-    pub live: u64,
-}
-
-// The two numbers of a header.
-pub fn header_of(bytes: &[u8; 6]) -> Header
-    ensures { λ r. ⌜ r ≡ headerIn (now (bytes .entry)) ⌝ }
-{
-    Header {
-        len: read_le32(bytes, 0),
-        kind: read_le16(bytes, 4),
-    }
+// What an item of a run gives: its line, whether it stands for a call, and the box's records after it.
+pub struct Next {
+    pub line: Line,
+    pub good: bool,
+    pub counters: Counters,
+    pub nursery: Nursery,
 }
 
 // The numbers of an item's line.
-pub fn line_of(place: u64, kind: u16, answer: Answer, counters: Counters) -> Line
+fn line_of(place: u64, kind: u16, answer: Answer, counters: Counters) -> Line
     ensures { λ r. ⌜ r ≡ lineOf place kind answer counters ⌝ }
 {
     Line {
@@ -194,7 +179,7 @@ fn run_drain(
 }
 
 // Runs the call of an item on a box, or does nothing where it is bad.
-pub fn run_item(
+fn run_item(
     counters: Counters,
     nursery: Nursery,
     t: &mut [u64],
@@ -215,5 +200,54 @@ pub fn run_item(
         3 => run_delta(counters, nursery, es, ws, cs, body),
         4 => run_drain(counters, nursery, es, ws, cs, body),
         _ => bad(counters, nursery),
+    }
+}
+
+// Runs the item that bytes begin with.
+fn run_bytes(
+    counters: Counters,
+    nursery: Nursery,
+    t: &mut [u64],
+    es: &mut [u64],
+    ws: &mut [u64],
+    cs: &mut [u8],
+    bytes: &[u8],
+) -> Ran
+    ensures { λ r. ⌜ effect r (now (t .exit)) (now (es .exit)) (now (ws .exit)) (now (cs .exit)) ≡ ran (boxOf counters (now (t .entry)) nursery (now (es .entry)) (now (ws .entry)) (now (cs .entry))) (itemCall (now (bytes .entry))) ⌝ }
+{
+    if bytes.len() < 6 {
+        return bad(counters, nursery);
+    }
+    let len = body_len(bytes);
+    if bytes.len() - 6 < len {
+        return bad(counters, nursery);
+    }
+    let kind = kind_of(bytes);
+    run_item(counters, nursery, t, es, ws, cs, kind, &bytes[6..6 + len])
+}
+
+// The same, with its line. A run goes on from where a good item ends, at the next place.
+pub fn run_next(
+    counters: Counters,
+    nursery: Nursery,
+    t: &mut [u64],
+    es: &mut [u64],
+    ws: &mut [u64],
+    cs: &mut [u8],
+    place: u64,
+    bytes: &[u8],
+) -> Next
+    ensures { λ r. ⌜ turned r (now (t .exit)) (now (es .exit)) (now (ws .exit)) (now (cs .exit)) ≡ turn (boxOf counters (now (t .entry)) nursery (now (es .entry)) (now (ws .entry)) (now (cs .entry))) place (now (bytes .entry)) ⌝ }
+{
+    let r = run_bytes(counters, nursery, t, es, ws, cs, bytes);
+    let answer = r.answer;
+    let after = r.counters;
+    let next = r.nursery;
+    let kind = kind_of(bytes);
+    Next {
+        line: line_of(place, kind, answer, after),
+        good: r.good,
+        counters: after,
+        nursery: next,
     }
 }

@@ -21,7 +21,8 @@ use Rattle.base.specs.MaybeLaws.{Gives, nothing, gives, gives-bind, gives-ensur
 use Rattle.journal_laws.specs.DeltaLaws.{Bytes, cut-bytes, le-bytes, delta-read}
 use Rattle.node_box.specs.Box.{Call, allocate, batch, delta, drain}
 use Rattle.node_box.specs.Demand.{typed}
-use Rattle.box_items.specs.Items.{headerIn, wordsIn, allocateItem, batchItem, deltaItem, drainItem, drainRoom, callOf, itemCall}
+use Rattle.box_lines.specs.Lines.{kindOf, bodyLen}
+use Rattle.box_items.specs.Items.{wordsIn, allocateItem, batchItem, deltaItem, drainItem, drainRoom, callOf, itemCall}
 
 -- the calls that items stand for
 pub data ItemCall : Call → Type 0 where
@@ -90,4 +91,6 @@ module _ (body : List ℕ) (b : Bytes body) where
 
 pub item-fits : (bs : List ℕ) → Bytes bs → Gives Fit (itemCall bs)
 unfolding itemCall
-item-fits bs b = gives-bind (cut-bytes (headerIn bs .len) (drop 6 bs) (all-drop (λ x. ltb x 256) 6 bs b)) (λ y p. call-fits (y .0) (p .1) (headerIn bs .kind))
+item-fits bs b =
+    gives-ensure (leb 6 (length bs)) (λ e.
+    gives-bind (cut-bytes (bodyLen bs) (drop 6 bs) (all-drop (λ x. ltb x 256) 6 bs b)) (λ y p. call-fits (y .0) (p .1) (kindOf bs)))

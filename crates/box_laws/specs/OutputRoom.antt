@@ -7,7 +7,7 @@ use mathlib.Core.List.{List, [], _∷_}
 use Prim.Native.Nat.{ℕ, zero, suc, _+_, _*_}
 use native.Mathlib.Omega.{arith}
 use lib.ListN.{length, drop, length-replicate}
-use lib.Dec.{leb, ltb, eqb}
+use lib.Dec.{ltb, eqb}
 use borrow.Author.Tests.{eqb-true}
 use Rattle.base.specs.Logic.{pick, all, any, elem, zeros}
 use Rattle.base.specs.Laws.{and-both}
@@ -15,7 +15,7 @@ use Rattle.base.specs.ListLaws.{all-drop}
 use Rattle.base.specs.Answers.{answerNumber, numberOf}
 use Rattle.base.specs.declared.Answer.{Answer}
 use Rattle.base.specs.declared.Answer.the-variants.{Taken, Refused}
-use Rattle.base.specs.declared.Refusal.the-variants.{OutputFull, Broken}
+use Rattle.base.specs.declared.Refusal.the-variants.{OutputFull}
 use Rattle.base.specs.MaybeLaws.{Gives, gives}
 use Rattle.journal_laws.specs.DeltaLaws.{Bytes}
 use Rattle.node_box.specs.Box.{Box, Call, allocate, batch, delta, made, step, run}
@@ -23,8 +23,9 @@ use Rattle.node_box.specs.Demand.{start, end}
 use Rattle.demand3.specs.Holding.{Sizes, Holding, holding-step, holding}
 use Rattle.demand3.specs.Refusals.{numbersOf, refusals}
 use Rattle.demand3.specs.DrainRoom.{drain-fits}
-use Rattle.box_items.specs.declared.Line.{Line}
-use Rattle.box_items.specs.Items.{headerIn, drainRoom, itemCall, ran, lineOf, runBox, linesFrom, lines}
+use Rattle.box_lines.specs.declared.Line.{Line}
+use Rattle.box_lines.specs.Lines.{kindOf, bodyLen}
+use Rattle.box_items.specs.Items.{drainRoom, itemCall, ran, lineOf, turn, runBox, linesFrom, lines}
 use Rattle.box_laws.specs.ItemCalls.{ItemCall, allocates, batches, changes, drains, Fit, item-fits}
 
 -- a run's tables
@@ -67,22 +68,18 @@ abbrev pub roomy : Line → Bool
 roomy l = not (eqb (l .answer) tooShort)
 
 lines-room : (fuel : ℕ) (b : Box) (place : ℕ) (bs : List ℕ) → Bytes bs → Holding runSizes b → all roomy (linesFrom fuel b place bs) ≡ true
-unfolding linesFrom all ran
+unfolding linesFrom turn all ran
 lines-room zero b place bs c h = refl
 lines-room (suc fuel) b place [] c h = refl
 lines-room (suc fuel) b place (x ∷ xs) c h =
-    go (λ y ys d k. lines-room fuel (step b y .1) (suc place) ys d k) (x ∷ xs) c (leb 6 (length (x ∷ xs))) (itemCall (x ∷ xs)) (item-fits (x ∷ xs) c)
+    go (λ y ys d k. lines-room fuel (step b y .1) (suc place) ys d k) (x ∷ xs) c (itemCall (x ∷ xs)) (item-fits (x ∷ xs) c)
   where
     go : ((y : Call) (ys : List ℕ) → Bytes ys → Holding runSizes (step b y .1) → all roomy (linesFrom fuel (step b y .1) (suc place) ys) ≡ true)
-        → (bs : List ℕ) → Bytes bs → (whole : Bool) (o : Option Call) → Gives Fit o
-        → all roomy
-        (pick whole (lineOf place (headerIn bs .kind) (ran b o .answer) (ran b o .box .counters) ∷ pick (ran b o .good) (linesFrom fuel (ran b o .box) (suc place) (drop (6 + headerIn bs .len) bs)) [])
-        (lineOf place 0 (Refused Broken) (b .counters) ∷ []))
-        ≡ true
-    go after bs c false o g = refl
-    go after bs c true none g = refl
-    go after bs c true (some y) (gives p) =
-        let n = 6 + headerIn bs .len in
+        → (bs : List ℕ) → Bytes bs → (o : Option Call) → Gives Fit o
+        → all roomy (lineOf place (kindOf bs) (ran b o .answer) (ran b o .box .counters) ∷ pick (ran b o .good) (linesFrom fuel (ran b o .box) (suc place) (drop (6 + bodyLen bs) bs)) []) ≡ true
+    go after bs c none g = refl
+    go after bs c (some y) (gives p) =
+        let n = 6 + bodyLen bs in
         and-both _ _ (item-call h y (p .1)) (after y (drop n bs) (all-drop (λ x. ltb x 256) n bs c) (holding-step y (p .0) h))
 
 -- a box as it is made
