@@ -1,6 +1,7 @@
 // How many steps of a list agree.
 use libc::STDOUT_FILENO;
 ghost use mathlib.Core.Path.{_≡_};
+ghost use lib.Dec.{eqb};
 ghost use Rattle.call_lists.specs.Tallies.{oneMore};
 
 fn say(text: &[u8]) {
@@ -39,11 +40,15 @@ pub fn counted(t: Tally, good: bool, name: &[u8]) -> Tally
     }
 }
 
-pub fn report(name: &[u8], t: Tally) {
+// How many agree, in a line; whether all do.
+pub fn report(name: &[u8], t: Tally) -> bool
+    ensures { λ r. ⌜ r ≡ eqb (t .good) (t .steps) ⌝ }
+{
     say(name);
     say(b": ");
     say_number(t.good);
     say(b" of ");
     say_number(t.steps);
     say(b" answers agree\n");
+    t.good == t.steps
 }
