@@ -21,12 +21,15 @@ pub struct Printed {
     pub whole: bool,
 }
 
-// The kind of the item that bytes begin with, and 0 where its six bytes aren't all there.
+// The kind of an item whose six bytes aren't all there.
+const NO_KIND: u16 = 0;
+
+// The kind of the item that bytes begin with.
 pub fn kind_of(bytes: &[u8]) -> u16
     ensures { λ r. ⌜ r ≡ kindOf (now (bytes .entry)) ⌝ }
 {
     if bytes.len() < 6 {
-        return 0;
+        return NO_KIND;
     }
     read_le16(bytes, 4)
 }
