@@ -98,9 +98,9 @@ pub record Turn : Type 0 where
   pub good : Bool
   pub box : Box
 
--- running it, for the contract: what it returned, and the tables as it left them
-abbrev pub turned : Next → List ℕ → List ℕ → List ℕ → List ℕ → Turn
-turned r t es ws cs = record { line = r .line; good = r .good; box = boxOf (r .counters) t (r .nursery) es ws cs }
+-- its effect, for the contract: what it returned, and the tables as it left them
+abbrev pub turnEffect : Next → List ℕ → List ℕ → List ℕ → List ℕ → Turn
+turnEffect r t es ws cs = record { line = r .line; good = r .good; box = boxOf (r .counters) t (r .nursery) es ws cs }
 
 unfoldable pub turn : Box → ℕ → List ℕ → Turn
 turn b place bs =

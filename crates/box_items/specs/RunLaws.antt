@@ -15,7 +15,7 @@ use Rattle.node_box.specs.Box.{Box, Call}
 use Rattle.box_lines.specs.declared.Line.{Line}
 use Rattle.box_lines.specs.Lines.{kindOf, bodyLen}
 use Rattle.box_items.specs.declared.Ran.{Ran}
-use Rattle.box_items.specs.Items.{callOf, Ended, effect, ran, itemCall, lineOf, Turn, turned, turn, linesFrom}
+use Rattle.box_items.specs.Items.{callOf, Ended, effect, ran, itemCall, lineOf, Turn, turnEffect, turn, linesFrom}
 
 -- ---- the item that bytes begin with
 
@@ -42,10 +42,10 @@ module _ (bs : List ℕ) where
   -- with its line
   pub item-turn : (b : Box) (place kind : ℕ) (l : Line) (r : Ran) (t es ws cs : List ℕ) → effect r t es ws cs ≡ ran b (itemCall bs) → kind ≡ kindOf bs
       → l ≡ lineOf place kind (r .answer) (r .counters)
-      → turned (record { line = l; good = r .good; counters = r .counters; nursery = r .nursery }) t es ws cs ≡ turn b place bs
+      → turnEffect (record { line = l; good = r .good; counters = r .counters; nursery = r .nursery }) t es ws cs ≡ turn b place bs
   unfolding turn
   item-turn b place kind l r t es ws cs e k q =
-      ap (λ (x : Line). turned (record { line = x; good = r .good; counters = r .counters; nursery = r .nursery }) t es ws cs)
+      ap (λ (x : Line). turnEffect (record { line = x; good = r .good; counters = r .counters; nursery = r .nursery }) t es ws cs)
       (q ∙ ap (λ (n : ℕ). lineOf place n (r .answer) (r .counters)) k)
       ∙ ap (λ (x : Ended). turnOf x) e
     where

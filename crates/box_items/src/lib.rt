@@ -16,7 +16,7 @@ ghost use Prim.Native.Nat.{ℕ, _*_, _≤_};
 ghost use lib.ListN.{length};
 ghost use lib.Seq.{paste};
 ghost use Rattle.delta_items.specs.Walk.{itemsFit};
-ghost use Rattle.box_items.specs.Items.{badItem, effect, boxOf, ran, wordsIn, allocateItem, batchItem, deltaItem, drainItem, callOf, itemCall, lineOf, turned, turn};
+ghost use Rattle.box_items.specs.Items.{badItem, effect, boxOf, ran, wordsIn, allocateItem, batchItem, deltaItem, drainItem, callOf, itemCall, lineOf, turnEffect, turn};
 
 // What running an item returns: whether it stands for a call, the answer, and the box's records after it. A bad item's answer is 20.
 struct Ran {
@@ -237,7 +237,7 @@ pub fn run_next(
     place: u64,
     bytes: &[u8],
 ) -> Next
-    ensures { λ r. ⌜ turned r (now (t .exit)) (now (es .exit)) (now (ws .exit)) (now (cs .exit)) ≡ turn (boxOf counters (now (t .entry)) nursery (now (es .entry)) (now (ws .entry)) (now (cs .entry))) place (now (bytes .entry)) ⌝ }
+    ensures { λ r. ⌜ turnEffect r (now (t .exit)) (now (es .exit)) (now (ws .exit)) (now (cs .exit)) ≡ turn (boxOf counters (now (t .entry)) nursery (now (es .entry)) (now (ws .entry)) (now (cs .entry))) place (now (bytes .entry)) ⌝ }
 {
     let r = run_bytes(counters, nursery, t, es, ws, cs, bytes);
     let answer = r.answer;

@@ -19,7 +19,7 @@ use Rattle.box_lines.specs.declared.Line.{Line}
 use Rattle.box_lines.specs.Lines.{bodyLen, lineText, heading, Output, nothing, append}
 use Rattle.box_lines.specs.LineLaws.{append-none, append-join, append-then}
 use Rattle.box_items.specs.declared.Next.{Next}
-use Rattle.box_items.specs.Items.{boxOf, Turn, turned, turn, runBox, lines, text}
+use Rattle.box_items.specs.Items.{boxOf, Turn, turnEffect, turn, runBox, lines, text}
 use Rattle.box_items.specs.RunLaws.{good-there, linesOf, lines-end, lines-item}
 
 -- what is printed for bytes from a place on
@@ -39,7 +39,7 @@ text-end b place at input o r e h =
 module _ (b : Box) (place at : ℕ) (input : List ℕ) (o p r : Output) (n : Next) (t es ws cs : List ℕ)
     (inv : append (textFrom b place (drop at input)) o ≡ r)
     (below : at < length input)
-    (ran : turned n t es ws cs ≡ turn b place (take (length input - at) (drop at input)))
+    (ran : turnEffect n t es ws cs ≡ turn b place (take (length input - at) (drop at input)))
     (put : p ≡ append (lineText (n .line)) o) where
   lent : take (length input - at) (drop at input) ≡ drop at input
   lent = take-all (length input - at) (drop at input) (omega (arith, length-drop at input))
@@ -47,7 +47,7 @@ module _ (b : Box) (place at : ℕ) (input : List ℕ) (o p r : Output) (n : Nex
   rest : List Line
   rest = linesOf (boxOf (n .counters) t (n .nursery) es ws cs) (suc place) (drop (6 + bodyLen (drop at input)) (drop at input))
 
-  ran-there : turned n t es ws cs ≡ turn b place (drop at input)
+  ran-there : turnEffect n t es ws cs ≡ turn b place (drop at input)
   ran-there = ran ∙ ap (λ (l : List ℕ). turn b place l) lent
 
   -- its line, and after a good one what is printed from where it ends
