@@ -8,7 +8,7 @@ use Rattle.box_lines.proofs.kind_of.Statement.{statement}
 use Rattle.box_lines.proofs.kind_of.Tie as tie
 
 returns : tie.Need-returns
-returns c = sym (kind-short _ (omega arith))
+returns c = omega (arith, kind-short (c .before .before .args .bytes .now) (omega arith))
 
 read-le16-requires : tie.Need-read-le16-requires
 read-le16-requires c κs = search needs
