@@ -40,7 +40,7 @@ returns-3 : tie.Need-returns-3 Inv-loop μ-loop
 returns-3 c =
     let l = c .before .before .before .before .loop in
     let a = c .before .before .before .before .before .before .before .before .before .before .args in
-    spells-differs (a .text .now) (a .bytes .now) (l .n) (l .inv .2) (l .inv .3) (omega arith) (omega arith) (rw (← c .before .before .pair-at .ensures) (c .if3 .taken))
+    spells-differs (a .text .now) (a .bytes .now) (l .n) (l .inv .2) (l .inv .3) (omega arith) (omega arith) (λ e. c .if3 .taken (c .before .before .pair-at .ensures ∙ e))
 
 loop-again : tie.Need-loop-again Inv-loop μ-loop
 loop-again c =
