@@ -1,10 +1,10 @@
 // A list is lines of text, most of them bytes in hex.
-use crate::answers::room;
-use byte_slices::equal;
 ghost use mathlib.Core.Path.{_≡_};
-ghost use Prim.Native.Nat.{_≤_, _<_};
-ghost use lib.ListN.{length};
-ghost use Rattle.call_lists.specs.Lines.{lineEnd};
+ghost use Prim.Native.Nat.{_≤_, _<_, _/_};
+ghost use lib.Dec.{leb};
+ghost use lib.ListN.{length, getD};
+ghost use Rattle.base.specs.Logic.{pick, overlay};
+ghost use Rattle.call_lists.specs.Lines.{lineEnd, lineAfter, digitOf, pairOf, pairsOf, isHex, decoded, spellsBytes};
 
 // Where the line that `at` is in ends.
 pub fn line_end(s: &[u8], at: usize) -> usize
@@ -24,14 +24,14 @@ pub fn line_end(s: &[u8], at: usize) -> usize
 // Where the line after the one that ends at `end` begins.
 pub fn line_after(s: &[u8], end: usize) -> usize
     requires { ⌜ end ≤ length (now s) ⌝ }
-    ensures { λ r. ⌜ (end ≤ r) × (r ≤ length (now (s .entry))) ⌝ }
+    ensures { λ r. ⌜ (end ≤ r) × (r ≤ length (now (s .entry))) × (r ≡ lineAfter (now (s .entry)) end) ⌝ }
 {
     if end < s.len() { end + 1 } else { end }
 }
 
 // The value of a digit, and 16 for anything else.
 fn digit(b: u8) -> u16
-    ensures { λ r. ⌜ r ≤ 16 ⌝ }
+    ensures { λ r. ⌜ (r ≤ 16) × (r ≡ digitOf b) ⌝ }
 {
     match b {
         b'0'..=b'9' => (b - b'0') as u16,
@@ -41,7 +41,9 @@ fn digit(b: u8) -> u16
 }
 
 // The byte of two digits, and 256 where one is none.
-fn pair(high: u8, low: u8) -> u16 {
+fn pair(high: u8, low: u8) -> u16
+    ensures { λ r. ⌜ r ≡ pairOf high low ⌝ }
+{
     let h = digit(high);
     let l = digit(low);
     if 15 < h {
@@ -53,41 +55,73 @@ fn pair(high: u8, low: u8) -> u16 {
     16 * h + l
 }
 
-// How many bytes a text writes into the output; 0 where it isn't pairs of digits, or there is too little room.
-pub fn decode(text: &[u8], out: &mut [u8]) -> usize
-    ensures { λ r. ⌜ r ≤ length (now (out .exit)) ⌝ }
+// The same of a text's pair at index n.
+fn pair_at(text: &[u8], n: usize) -> u16
+    requires { ⌜ n < length (now text) / 2 ⌝ }
+    ensures { λ r. ⌜ r ≡ getD (pairsOf (now (text .entry))) n 0 ⌝ }
+{
+    pair(text[2 * n], text[2 * n + 1])
+}
+
+// Whether a text is pairs of digits.
+fn is_hex(text: &[u8]) -> bool
+    ensures { λ r. ⌜ r ≡ isHex (now (text .entry)) ⌝ }
 {
     let mut n = 0;
     while n < text.len() / 2 {
-        if out.len() <= n {
-            return 0;
+        if 255 < pair_at(text, n) {
+            return false;
         }
-        let b = pair(text[2 * n], text[2 * n + 1]);
-        if 255 < b {
-            return 0;
-        }
-        out[n] = b as u8;
         n += 1;
     }
-    if text.len() % 2 != 0 {
+    text.len() % 2 == 0
+}
+
+// The bytes that a text spells go to the start of the output; how many they are. Where it isn't pairs of digits, or there is too little room, none.
+pub fn decode(text: &[u8], out: &mut [u8]) -> usize
+    ensures { λ r. ⌜ (r ≤ length (now (out .exit))) × (r ≡ length (decoded (now (text .entry)) (length (now (out .entry)))))
+        × (now (out .exit) ≡ overlay (decoded (now (text .entry)) (length (now (out .entry)))) (now (out .entry))) ⌝ }
+{
+    if out.len() < text.len() / 2 {
         return 0;
+    }
+    if !is_hex(text) {
+        return 0;
+    }
+    let mut n = 0;
+    while n < text.len() / 2 {
+        out[n] = pair_at(text, n) as u8;
+        n += 1;
     }
     n
 }
 
 // How many bytes a text spells if it is pairs of digits; 0 where `room` is too small for them.
 pub fn spelled(text: &[u8]) -> usize
-    ensures { λ r. ⌜ r ≤ 66000 ⌝ }
+    ensures { λ r. ⌜ (r ≤ 66000) × (r ≡ pick (leb (length (now (text .entry)) / 2) 66000) (length (now (text .entry)) / 2) 0) ⌝ }
 {
     let n = text.len() / 2;
     if n <= 66000 { n } else { 0 }
 }
 
-// Whether a text spells bytes. What isn't pairs of digits spells none.
-pub fn spells(text: &[u8], bytes: &[u8]) -> bool {
-    let mut room = room();
-    let n = decode(text, &mut room);
-    equal(&room[0..n], bytes)
+// Whether a text spells bytes. What isn't pairs of digits spells nothing.
+pub fn spells(text: &[u8], bytes: &[u8]) -> bool
+    ensures { λ r. ⌜ r ≡ spellsBytes (now (text .entry)) (now (bytes .entry)) ⌝ }
+{
+    if !is_hex(text) {
+        return false;
+    }
+    if text.len() / 2 != bytes.len() {
+        return false;
+    }
+    let mut n = 0;
+    while n < bytes.len() {
+        if pair_at(text, n) != bytes[n] as u16 {
+            return false;
+        }
+        n += 1;
+    }
+    true
 }
 
 // A step: where its call ends, where its wanted answer begins and ends, and where the next step begins.
