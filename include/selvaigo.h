@@ -172,8 +172,8 @@ uint8_t selvaigo_encode_record(uint64_t id, uint8_t wide, uint64_t inserts, uint
 uint8_t selvaigo_decode_record(const uint8_t *bytes, size_t bytes_len, uint64_t figures[8], uint8_t hash[32]);
 
 /* A journal, read into an empty nursery: writes nursery, entries, waiting and cells, whatever was in them, and read: records
- * applied, and the place after the last of them. The answer is 0 at the journal's end, else the number of what its first record that wasn't
- * applied is refused with, which is never SELVAIGO_BROKEN; what was applied stays. */
+ * applied, and the place after the last of them. The answer is 0 at the journal's end, else the number that the first record that wasn't
+ * applied is refused with (16 to 19), or its delta (12 or 13), and no other; what was applied stays. */
 uint8_t selvaigo_read_journal(const uint8_t *journal, size_t journal_len, uint64_t nursery[SELVAIGO_NURSERY], uint64_t *entries,
                               size_t entries_len, uint64_t *waiting, size_t waiting_len, uint8_t *cells, size_t cells_len,
                               uint64_t read[2]);
