@@ -16,7 +16,7 @@ use Rattle.base.specs.Answers.{Outcome, refused, taken, _>>=_, _>>_, ref
 use Rattle.base.specs.OutcomeLaws.{answer-refused, other-number, taken-refused, ends-here, ends-later, Refuses, refuses-none, refuses-step}
 use Rattle.base.specs.Output.{fitting}
 use Rattle.base.specs.declared.Answer.{Answer}
-use Rattle.base.specs.declared.Answer.the-variants.{Refused}
+use Rattle.base.specs.declared.Answer.the-variants.{Taken, Refused}
 use Rattle.base.specs.declared.Refusal.{Refusal}
 use Rattle.base.specs.declared.Refusal.the-variants.{OutputFull, Broken}
 
@@ -112,6 +112,10 @@ module _ (room : ℕ) (bs : List ℕ) where
     lent-numbers = rw (fitting-step room (not held) Broken (taken bs)) (refuses-step Broken (15 ∷ []) (not-test held) output-numbers)
 
 -- ---- answers
+-- one that is taken is no refusal
+pub not-refused : {r : Refusal} → Taken ≡ Refused r → ⊥
+not-refused e = let z : _≡_ {A = ℕ} 0 1 = cc in omega arith
+
 -- an answer that is an outcome's is a refusal exactly where the outcome is
 pub says : {A P : Type 0} {a : Answer} {r : Refusal} (o : Outcome A) → a ≡ answerOf o → (o ≡ refused r) ↔ P → (a ≡ Refused r) ↔ P
 says {r = r} o e f = (λ q. f .0 (answer-refused o r .0 (sym e ∙ q)), λ p. e ∙ answer-refused o r .1 (f .1 p))

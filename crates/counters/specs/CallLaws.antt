@@ -13,6 +13,7 @@ use borrow.Author.Tests.{eqb-true, eqb-false}
 use Rattle.base.specs.Logic.{all, any, elem, ascendingFrom}
 use Rattle.base.specs.Laws.{and-left, and-both}
 use Rattle.base.specs.Answers.{Outcome, refused, taken, _>>=_, orRefuse, answerOf, valueOr, numberOf}
+use Rattle.base.specs.AnswerLaws.{not-refused}
 use Rattle.base.specs.declared.Refusal.{Refusal}
 use Rattle.base.specs.declared.Refusal.the-variants.{Broken}
 use Rattle.base.specs.declared.Answer.the-variants.{Taken, Refused}
@@ -55,9 +56,6 @@ module _ {A : Type 0} (c : Counters) (t : List ℕ) (f : State → Outcome A) wh
   pub onState-numbers : (ns : List ℕ) → Refuses ns (f (stateOf c t)) → Refuses (20 ∷ ns) (onState c t f)
   unfolding onState
   onState-numbers ns inner = refuses-step {P = not (holds c t) ≡ true} Broken ns (λ e. e, λ e. e) inner
-
-not-refused : {r : Refusal} → Taken ≡ Refused r → ⊥
-not-refused e = let z : _≡_ {A = ℕ} 0 1 = cc in omega arith
 
 -- ---- making counters: the table's content doesn't matter
 module _ (base : ℕ) (next : NextIdx) (t : List ℕ) where

@@ -16,6 +16,7 @@ use Rattle.base.specs.ListLaws.{all-drop}
 use Rattle.base.specs.Logic.{all, any, elem, overlay}
 use Rattle.base.specs.Laws.{and-left, and-right}
 use Rattle.base.specs.Answers.{Outcome, refused, taken, numberOf, answerNumber, answerOf}
+use Rattle.base.specs.AnswerLaws.{not-refused}
 use Rattle.base.specs.OutcomeLaws.{taken-refused, refuses-none, answer-refused}
 use Rattle.base.specs.declared.Refusal.{Refusal}
 use Rattle.base.specs.declared.Refusal.the-variants.{Broken, OutputFull}
@@ -70,9 +71,6 @@ module _ (c : Counters) (t : List ℕ) (h : holds c t ≡ true) where
         rw serialize-held (take-at bs (drop (length bs) out) (length bs) refl)
 
 -- ---- the refusals of writing
-not-refused : {r : Refusal} → Taken ≡ Refused r → ⊥
-not-refused e = let z : _≡_ {A = ℕ} 0 1 = cc in omega arith
-
 module _ (c : Counters) (t out : List ℕ) where
   abbrev long : ℕ
   long = length (snapshotBytes (stateOf c t))

@@ -12,7 +12,7 @@ use Rattle.base.specs.Logic.{pick, all, fold, max64}
 use Rattle.base.specs.Laws.{and-left, and-right}
 use Rattle.base.specs.ListLaws.{all-keep, all-drop}
 use Rattle.base.specs.Answers.{taken}
-use Rattle.base.specs.declared.Refusal.{Refusal}
+use Rattle.base.specs.AnswerLaws.{not-refused}
 use Rattle.base.specs.declared.Refusal.the-variants.{Spent, Broken}
 use Rattle.base.specs.declared.Answer.{Answer}
 use Rattle.base.specs.declared.Answer.the-variants.{Taken, Refused}
@@ -86,9 +86,6 @@ batch-fits ws ts a e = go (eqb (length ws % 3) 0) e
     go false q = let z : _≡_ {A = ℕ} 0 1 = cc in absurd (omega arith)
 
 -- ---- the calls
-not-refused : {r : Refusal} → Taken ≡ Refused r → ⊥
-not-refused e = let z : _≡_ {A = ℕ} 0 1 = cc in omega arith
-
 pub new-well-formed : (base : ℕ) (next : NextIdx) (t : List ℕ) → next .0 < 2 ^ 64 → WellFormed (stateOf (newCall base next t .result .counters) (newCall base next t .table))
 unfolding fresh all
 new-well-formed base next t h =

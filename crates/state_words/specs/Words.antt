@@ -7,6 +7,8 @@ use mathlib.Core.List.{List, [], _∷_}
 use lib.ListN.{getD}
 use Rattle.base.specs.Answers.{answerNumber}
 use Rattle.base.specs.Output.{Written}
+use Rattle.base.specs.declared.Answer.{Answer}
+use Rattle.base.specs.declared.Answer.the-variants.{Taken, Refused}
 use Rattle.counters.specs.declared.Counters.{Counters}
 use Rattle.cell_nursery.specs.declared.Nursery.{Nursery}
 
@@ -73,6 +75,11 @@ oneWord n = (n ∷ []) ∷ []
 -- an output that was written: the value is its length
 unfoldable pub writtenSaid : Written → Said
 writtenSaid x = said (answerNumber (x .result .answer)) (oneWord (x .result .len)) (x .out ∷ [])
+
+-- the words of a record after a call that makes one: beside a refusal those that were there
+abbrev pub wordsAfter : List ℕ → Answer → List ℕ → List ℕ
+wordsAfter w Taken v = v
+wordsAfter w (Refused r) v = w
 
 -- beside a refusal these are the values, and these the slices
 abbrev pub Unchanged : List (List ℕ) → List (List ℕ) → Said → Type 0
