@@ -1,17 +1,16 @@
--- How a journal reading ends: records applied, the byte place after the last of them and the number, fixed by evaluation.
+-- How a journal reading ends: its answer, records applied, the byte place after the last of them and the number, fixed by evaluation.
 -- In the place of the hash stands one that is quick to evaluate: the first 32 bytes of what it covers.
 -- Assumes nothing.
 use mathlib.Core.Path.{_≡_, refl}
 use Prim.Native.Nat.{ℕ}
 use mathlib.Core.List.{List, [], _∷_, _++_}
-use lib.ListN.{take, drop}
+use lib.ListN.{take, drop, replicate}
 use Rattle.base.specs.Logic.{zeros}
 use Rattle.base.specs.Answers.{answerNumber}
-use Rattle.base.specs.declared.Answer.the-variants.{Taken}
 use Rattle.cell_nursery.specs.Entries.{Entry, empty, insert}
 use Rattle.cell_nursery.specs.Layout.{recordOf, entriesTable, waitingTable}
 use Rattle.format.specs.Record.{recordBytes}
-use Rattle.journal.specs.Journal.{ReadIn, readCall}
+use Rattle.journal.specs.Journal.{ReadIn, scan, readCall}
 use Rattle.journal.specs.Open.{evaluation}
 
 -- the stand-in for the hash
@@ -35,7 +34,22 @@ idle = recordBytes firstBytes 1 (record { inserts = []; removes = [] })
 abbrev spoiled : List ℕ → List ℕ
 spoiled bs = 9 ∷ drop 1 bs
 
+-- a record of which a payload byte was flipped; one whose stated length is 2 ^ 64 - 8; one that states a length of 300; and one of 15 payload bytes with the
+-- right hash
+abbrev flipped : List ℕ → List ℕ
+flipped bs = take 45 bs ++ 1 ∷ drop 46 bs
+
+abbrev far : List ℕ
+far = zeros 32 ++ 0xf8 ∷ replicate 7 0xff
+
+abbrev reaching : List ℕ
+reaching = zeros 32 ++ 44 ∷ 1 ∷ zeros 6
+
+abbrev misfit : List ℕ
+misfit = let b : List ℕ = 15 ∷ zeros 22 in firstBytes b ++ b
+
 pub record Ending : Type 0 where
+  pub answer : ℕ
   pub applied : ℕ
   pub place : ℕ
   pub number : ℕ
@@ -44,29 +58,64 @@ pub record Ending : Type 0 where
 abbrev ending : List ℕ → Ending
 ending bs =
     let r = readCall firstBytes bs (zeros 16) (zeros 10) [] .result in
-    record { applied = r .applied; place = r .place; number = answerNumber (r .ended) }
+    record { answer = answerNumber (r .answer); applied = r .applied; place = r .place; number = answerNumber (r .ended) }
 
 -- a whole record and a cut one, read into tables that have any content
 abbrev stopped : ReadIn
 stopped = readCall firstBytes (put 1 ++ take 101 (put 2)) (9 ∷ zeros 16) (9 ∷ zeros 10) (9 ∷ [])
 
+-- that the reading is refused
+abbrev turned-down : Ending
+turned-down = record { answer = 21; applied = 0; place = 0; number = 0 }
+
+-- how the scan of bytes ends
+abbrev scanned : List ℕ → Ending
+scanned bs = let r = scan firstBytes bs in record { answer = 0; applied = r .records; place = r .place; number = answerNumber (r .ended) }
+
+-- a whole record and a damaged one, read into tables that have any content
+abbrev unread : ReadIn
+unread = readCall firstBytes (put 1 ++ spoiled (put 2)) (9 ∷ zeros 16) (9 ∷ zeros 10) (9 ∷ [])
+
 pub record Endings : Type 0 where
   -- no byte, and records up to the end; one that does nothing is applied and counted
-  empty-journal : ending [] ≡ record { applied = 0; place = 0; number = 0 }
-  to-the-end : ending (put 1 ++ takeOut 1 ++ idle) ≡ record { applied = 3; place = 246; number = 0 }
-  -- the first record refused: a cut one, and one with another hash; what comes after isn't read
-  cut : ending (put 1 ++ take 101 (put 2)) ≡ record { applied = 1; place = 102; number = 16 }
-  cut-to-one : ending (put 1 ++ take 1 (put 2)) ≡ record { applied = 1; place = 102; number = 16 }
-  mismatch : ending (put 1 ++ spoiled (put 2) ++ put 3) ≡ record { applied = 1; place = 102; number = 18 }
+  empty-journal : ending [] ≡ record { answer = 0; applied = 0; place = 0; number = 0 }
+  to-the-end : ending (put 1 ++ takeOut 1 ++ idle) ≡ record { answer = 0; applied = 3; place = 246; number = 0 }
+  -- a record that is cut ends the reading, one whose stated length runs past the end among them; what comes after isn't read
+  cut : ending (put 1 ++ take 101 (put 2)) ≡ record { answer = 0; applied = 1; place = 102; number = 16 }
+  cut-to-one : ending (put 1 ++ take 1 (put 2)) ≡ record { answer = 0; applied = 1; place = 102; number = 16 }
+  past-the-end : ending (put 1 ++ reaching) ≡ record { answer = 0; applied = 1; place = 102; number = 16 }
+  behind-a-cut : ending (put 1 ++ reaching ++ spoiled (put 2)) ≡ record { answer = 0; applied = 1; place = 102; number = 16 }
+  -- a damaged record refuses the reading, wherever it stands before the end or the first cut
+  mismatch : ending (put 1 ++ spoiled (put 2) ++ put 3) ≡ turned-down
+  flipped-byte : ending (put 1 ++ flipped (put 2)) ≡ turned-down
+  first-of-all : ending (spoiled (put 1)) ≡ turned-down
+  far-length : ending (put 1 ++ far) ≡ turned-down
+  misfits : ending (put 1 ++ misfit ++ take 1 (put 2)) ≡ turned-down
+  before-a-cut : ending (put 1 ++ spoiled (put 2) ++ take 50 (put 3)) ≡ turned-down
+  -- also behind a record whose delta would be refused; with none damaged, that delta ends the reading
+  behind-present : ending (put 1 ++ put 1 ++ spoiled (put 2)) ≡ turned-down
+  behind-full : ending (put 1 ++ put 2 ++ put 3 ++ spoiled (put 4)) ≡ turned-down
+  present-and-cut : ending (put 1 ++ put 1 ++ take 50 (put 2)) ≡ record { answer = 0; applied = 1; place = 102; number = 12 }
+  -- the scan tells which record it is, and what it is refused with
+  scan-mismatch : scanned (put 1 ++ put 1 ++ spoiled (put 2) ++ put 3) ≡ record { answer = 0; applied = 2; place = 204; number = 18 }
+  scan-far : scanned (put 1 ++ far) ≡ record { answer = 0; applied = 1; place = 102; number = 17 }
+  scan-misfit : scanned misfit ≡ record { answer = 0; applied = 0; place = 0; number = 19 }
+  scan-cut : scanned (put 1 ++ reaching ++ spoiled (put 2)) ≡ record { answer = 0; applied = 1; place = 102; number = 16 }
+  scan-end : scanned (put 1 ++ put 1) ≡ record { answer = 0; applied = 2; place = 204; number = 0 }
   -- the first record whose delta is refused
-  present : ending (put 1 ++ put 1 ++ put 2) ≡ record { applied = 1; place = 102; number = 12 }
-  full : ending (put 1 ++ put 2 ++ put 3 ++ takeOut 1) ≡ record { applied = 2; place = 204; number = 13 }
-  room-again : ending (put 1 ++ put 2 ++ takeOut 1 ++ put 3) ≡ record { applied = 4; place = 394; number = 0 }
+  present : ending (put 1 ++ put 1 ++ put 2) ≡ record { answer = 0; applied = 1; place = 102; number = 12 }
+  full : ending (put 1 ++ put 2 ++ put 3 ++ takeOut 1) ≡ record { answer = 0; applied = 2; place = 204; number = 13 }
+  room-again : ending (put 1 ++ put 2 ++ takeOut 1 ++ put 3) ≡ record { answer = 0; applied = 4; place = 394; number = 0 }
   -- what was applied stays, each entry waits, and the tables may have any content
   stays : stopped .result .nursery ≡ recordOf (insert (entry 1) empty)
   stays-entries : stopped .entries ≡ entriesTable 17 (insert (entry 1) empty)
   stays-waiting : stopped .waiting ≡ waitingTable 11 (insert (entry 1) empty)
   stays-cells : stopped .cells ≡ 0 ∷ []
+  -- beside a refusal the record is of zeros, and the tables are as they were
+  untouched : unread .result .nursery ≡ recordOf empty
+  untouched-entries : unread .entries ≡ 9 ∷ zeros 16
+  untouched-waiting : unread .waiting ≡ 9 ∷ zeros 10
+  untouched-cells : unread .cells ≡ 9 ∷ []
 
 pub endings : Endings
 unfolding evaluation
@@ -76,7 +125,22 @@ endings =
       to-the-end = refl;
       cut = refl;
       cut-to-one = refl;
+      past-the-end = refl;
+      behind-a-cut = refl;
       mismatch = refl;
+      flipped-byte = refl;
+      first-of-all = refl;
+      far-length = refl;
+      misfits = refl;
+      before-a-cut = refl;
+      behind-present = refl;
+      behind-full = refl;
+      present-and-cut = refl;
+      scan-mismatch = refl;
+      scan-far = refl;
+      scan-misfit = refl;
+      scan-cut = refl;
+      scan-end = refl;
       present = refl;
       full = refl;
       room-again = refl;
@@ -84,4 +148,8 @@ endings =
       stays-entries = refl;
       stays-waiting = refl;
       stays-cells = refl;
+      untouched = refl;
+      untouched-entries = refl;
+      untouched-waiting = refl;
+      untouched-cells = refl;
     }

@@ -9,9 +9,9 @@ use Prim.Native.Nat.{ℕ, _/_, min}
 use native.Mathlib.Omega.{arith}
 use lib.ListN.{length}
 use Rattle.base.specs.Answers.{Outcome, refused, taken, _>>=_, orRefuse}
+use Rattle.base.specs.AnswerLaws.{not-refused}
 use Rattle.base.specs.Output.{fitting}
-use Rattle.base.specs.declared.Answer.the-variants.{Taken, Refused}
-use Rattle.base.specs.declared.Refusal.{Refusal}
+use Rattle.base.specs.declared.Answer.the-variants.{Taken}
 use Rattle.base.specs.declared.Refusal.the-variants.{Broken}
 use Rattle.cell_nursery.specs.declared.Nursery.{Nursery}
 use Rattle.cell_nursery.specs.Entries.{State, empty, cellBytes}
@@ -24,9 +24,6 @@ use Rattle.cell_nursery.specs.LayoutLaws.{Held, WellFormed, held, holds-laid, n
 use Rattle.cell_nursery.specs.EntryLaws.{well-empty, well-after, well-drained, InRoom, room-empty, room-after}
 use Rattle.cell_nursery.specs.Calls.{Changed, DrainedOut, laid, laidOut, onState, newCall, lengthWidth, deltaCall, drainedOut, drainCall}
 use Rattle.journal_laws.specs.DeltaLaws.{Bytes, delta-read, delta-fits, taken-accepted}
-
-not-refused : {r : Refusal} → Taken ≡ Refused r → ⊥
-not-refused e = let z : _≡_ {A = ℕ} 0 1 = cc in omega arith
 
 -- the record and the tables that a call leaves hold a state
 abbrev pub Leaves : Changed → Type 0

@@ -1,6 +1,6 @@
 -- What the reading of a journal of any bytes leaves: a state that the tables can hold, in which every entry waits.
 -- Assumes nothing.
-use mathlib.Core.Path.{_≡_}
+use mathlib.Core.Path.{_≡_, sym, subst}
 use mathlib.Core.Bool.{true}
 use mathlib.Core.List.{List, []}
 use Prim.Native.Nat.{ℕ, _+_, _-_}
@@ -8,6 +8,7 @@ use native.Mathlib.Omega.{arith}
 use lib.ListN.{length, take, drop}
 use lib.Dec.{ltb}
 use Rattle.base.specs.Answers.{taken}
+use Rattle.base.specs.declared.Answer.the-variants.{Taken}
 use Rattle.base.specs.ListLaws.{all-take, all-drop}
 use Rattle.cell_nursery.specs.Entries.{State, empty}
 use Rattle.cell_nursery.specs.Delta.{Room}
@@ -18,8 +19,8 @@ use Rattle.cell_nursery.specs.EntryLaws.{well-empty, well-after, InRoom, room-e
 use Rattle.cell_nursery.specs.Calls.{laid}
 use Rattle.format.specs.Record.{Decoding, decode}
 use Rattle.format.specs.TakenLaws.{taken-lent}
-use Rattle.journal.specs.Journal.{applyRecord, readJournal, readCall}
-use Rattle.journal.specs.ReadLaws.{record-taken, reading-ends}
+use Rattle.journal.specs.Journal.{applyRecord, readJournal, ReadIn, readOut, readCall}
+use Rattle.journal.specs.ReadLaws.{record-taken, records-ends, read-taken}
 use Rattle.journal_laws.specs.DeltaLaws.{Bytes, Read, delta-read, delta-fits, taken-accepted}
 
 -- the delta of a record was read from bytes
@@ -52,14 +53,15 @@ module _ (hash : List ℕ → List ℕ) (m : Room) where
   unfolding readJournal
   journal-loaded bs b =
       let fresh : Loaded m empty = record { well = well-empty; room = room-empty (m .entries) (m .cells); waits = waits-empty } in
-      reading-ends hash m (λ s place rest. Loaded m s × Bytes rest)
-      (λ s t n place rest p e. (loaded-after s t n rest (p .1) e (p .0), all-drop (λ y. ltb y 256) (40 + n) rest (p .1)))
+      records-ends (applyRecord hash m) (λ s records place rest. Loaded m s × Bytes rest)
+      (λ s t n records place rest p e. (loaded-after s t n rest (p .1) e (p .0), all-drop (λ y. ltb y 256) (40 + n) rest (p .1)))
       empty 0 0 bs (fresh, b) .1 .0
 
 -- so the record and the tables that a reading leaves hold a state
 pub read-holds : (hash : List ℕ → List ℕ) (bs es ws cs : List ℕ) → Bytes bs
-    → let c = readCall hash bs es ws cs in holds (c .result .nursery) (c .entries) (c .waiting) (c .cells) ≡ true
-unfolding readCall laid roomOf
-read-holds hash bs es ws cs b =
+    → let c = readCall hash bs es ws cs in c .result .answer ≡ Taken → holds (c .result .nursery) (c .entries) (c .waiting) (c .cells) ≡ true
+unfolding readOut laid roomOf
+read-holds hash bs es ws cs b t =
     let l = journal-loaded hash (roomOf es ws cs) bs b in
-    holds-laid (readJournal hash (roomOf es ws cs) bs .state) (length es) (length ws) (length cs) (l .well) (l .room .rows-fit) (l .room .bytes-fit)
+    subst (λ (c : ReadIn). holds (c .result .nursery) (c .entries) (c .waiting) (c .cells) ≡ true) (sym (read-taken hash bs es ws cs t .1))
+    (holds-laid (readJournal hash (roomOf es ws cs) bs .state) (length es) (length ws) (length cs) (l .well) (l .room .rows-fit) (l .room .bytes-fit))
