@@ -2,7 +2,7 @@
 -- Assumes nothing.
 use mathlib.Core.Path.{_≡_, refl, sym, ap, _∙_}
 use mathlib.Core.Logic.{inl, inr}
-use mathlib.Core.Bool.{true}
+use mathlib.Core.Bool.{Bool, true, false}
 use mathlib.Core.List.{List}
 use Prim.Native.Nat.{ℕ, _+_, _-_, _/_, _≤_, _<_, min}
 use native.Mathlib.Numerals.{add-one}
@@ -11,7 +11,9 @@ use lib.ListN.{length, take, drop, length-drop}
 use lib.Seq.{drop-drop, drop-length, take-all}
 use Rattle.base.specs.Logic.{sumOf}
 use Rattle.base.specs.Answers.{Outcome, refused, taken}
+use Rattle.base.specs.AnswerLaws.{not-refused}
 use Rattle.base.specs.declared.Refusal.{Refusal}
+use Rattle.base.specs.declared.Refusal.the-variants.{Damaged}
 use Rattle.base.specs.declared.Answer.{Answer}
 use Rattle.base.specs.declared.Answer.the-variants.{Taken, Refused}
 use Rattle.cell_nursery.specs.declared.Nursery.{Nursery}
@@ -26,13 +28,15 @@ use Rattle.slices.specs.ByteLaws.{U8, u8-drop, u8-part}
 use Rattle.cell_nursery.specs.LayoutLaws.{WellFormed, Held, held, length-entriesTable, length-waitingTable, length-cellsTable, stateOf-laid, holds-laid}
 use Rattle.cell_nursery.specs.EntryLaws.{well-empty, well-after, InRoom, room-after}
 use Rattle.format.specs.Record.{Decoding, decode}
+use Rattle.format.specs.RefusalLaws.{Whole, Matches}
 use Rattle.format.specs.TakenLaws.{taken-lent}
-use Rattle.journal.specs.Journal.{effect, readFrom, readJournal, readCall}
-use Rattle.journal.specs.ReadLaws.{readRest, RecordRefused, record-refused, record-taken, readFrom-taken, readFrom-refused}
+use Rattle.journal.specs.declared.JournalScan.{JournalScan}
+use Rattle.journal.specs.Journal.{recordsFrom, scan, damages, damaged, applyRecord, readJournal, effect, notRead, readOut, readCall}
+use Rattle.journal.specs.ReadLaws.{RecordRefused, record-refused, record-taken, recordsIn, records-taken, records-refused}
 use Rattle.journal_laws.specs.DeltaLaws.{delta-read, delta-fits, taken-accepted}
+use Rattle.journal_laws.specs.EndLaws.{Reached, reached-next, undamaged-matches}
 use Rattle.journal_read.specs.declared.Step.{Step}
-use Rattle.journal_read.specs.Reading.{Stepped, stepped, beside, recordOn, recordCall, endOn, readOn}
-use Rattle.journal_read.specs.RecordLaws.{not-refused}
+use Rattle.journal_read.specs.Reading.{Stepped, stepped, beside, recordOn, recordCall, readOn}
 
 -- ---- between two records
 -- a journal that is read on from what a record and tables hold
@@ -47,7 +51,8 @@ module _ (hash : List ℕ → List ℕ) (s : List ℕ) (r₀ : Nursery) (es₀ w
     pub size-cs : length cs ≡ length cs₀
     pub inside : place ≤ length s
     pub counted : applied ≤ place
-    pub leads : readRest hash (roomOf es₀ ws₀ cs₀) (stateOf r es ws cs) applied place (drop place s) ≡ readRest hash (roomOf es₀ ws₀ cs₀) (stateOf r₀ es₀ ws₀ cs₀) 0 0 s
+    pub reached : Reached hash s place
+    pub leads : recordsIn (applyRecord hash (roomOf es₀ ws₀ cs₀)) (stateOf r es ws cs) applied place (drop place s) ≡ recordsIn (applyRecord hash (roomOf es₀ ws₀ cs₀)) (stateOf r₀ es₀ ws₀ cs₀) 0 0 s
 
   -- a record of n bytes was applied
   pub record Applied (r : Nursery) (n : ℕ) (es ws cs : List ℕ) (applied place : ℕ) : Type 0 where
@@ -66,16 +71,20 @@ module _ (hash : List ℕ → List ℕ) (s : List ℕ) (r₀ : Nursery) (es₀ w
     room-same = rw (x .size-es, x .size-ws, x .size-cs)
 
     -- the reading ends here
-    closed : (a : Answer) → readRest hash (roomOf es₀ ws₀ cs₀) here applied place (drop place s) ≡ record { state = here; applied = applied; place = place; ended = a }
-        → effect (record { nursery = r; applied = applied; place = place; ended = a }) es ws cs ≡ readOn hash r₀ es₀ ws₀ cs₀ s
-    unfolding readOn endOn laid
+    closed : (a : Answer) → recordsIn (applyRecord hash (roomOf es₀ ws₀ cs₀)) here applied place (drop place s) ≡ record { state = here; records = applied; place = place; ended = a }
+        → effect (record { answer = Taken; nursery = r; applied = applied; place = place; ended = a }) es ws cs ≡ readOn hash r₀ es₀ ws₀ cs₀ s
+    unfolding readOn readOut laid
     closed a e =
         let h = is-held in
         rw (← x .leads, e, ← x .size-es, ← x .size-ws, ← x .size-cs, h .same-record, h .same-entries, h .same-waiting, h .same-cells)
 
-    pub finished : place ≡ length s → effect (record { nursery = r; applied = applied; place = length s; ended = Taken }) es ws cs ≡ readOn hash r₀ es₀ ws₀ cs₀ s
-    unfolding readFrom
+    pub finished : place ≡ length s → effect (record { answer = Taken; nursery = r; applied = applied; place = length s; ended = Taken }) es ws cs ≡ readOn hash r₀ es₀ ws₀ cs₀ s
+    unfolding recordsFrom
     finished e = rw (← e) (closed Taken (rw (e, drop-length s)))
+
+    -- the record at this place: no record of the journal is damaged, so that a whole one has its hash
+    pub known : damaged hash s ≡ false → Whole (take (length s - place) (drop place s)) → Matches hash (take (length s - place) (drop place s))
+    known sound w = rw (take-all (length s - place) (drop place s) (omega (arith, length-drop place s))) (undamaged-matches hash s sound (x .reached) (rw (take-all (length s - place) (drop place s) (omega (arith, length-drop place s))) at w))
 
     -- what a record at this place did; the bytes from there on are lent as a part of the journal
     module _ (more : place < length s) (u : U8 s) (q : Step) (es' ws' cs' : List ℕ) (e : stepped q es' ws' cs' ≡ recordCall hash r es ws cs (take (length s - place) (drop place s))) where
@@ -100,13 +109,13 @@ module _ (hash : List ℕ → List ℕ) (s : List ℕ) (r₀ : Nursery) (es₀ w
               omega (arith, taken-lent hash rest d i .inside, length-drop place s)
 
       -- it was refused, or its delta was: nothing changed
-      pub stopped : (a : Refusal) → q .answer ≡ Refused a → effect (record { nursery = q .nursery; applied = applied; place = place; ended = q .answer }) es' ws' cs' ≡ readOn hash r₀ es₀ ws₀ cs₀ s
+      pub stopped : (a : Refusal) → q .answer ≡ Refused a → effect (record { answer = Taken; nursery = q .nursery; applied = applied; place = place; ended = q .answer }) es' ws' cs' ≡ readOn hash r₀ es₀ ws₀ cs₀ s
       unfolding recordCall recordOn laidOut laid
       stopped a ended = go (decode hash rest) refl on-rest
         where
           as-before : (k : ℕ) (y : Refusal) → stepped q es' ws' cs' ≡ beside k (laidOut r es ws cs (refused y))
-              → readRest hash (roomOf es₀ ws₀ cs₀) here applied place rest ≡ record { state = here; applied = applied; place = place; ended = Refused y }
-              → effect (record { nursery = q .nursery; applied = applied; place = place; ended = q .answer }) es' ws' cs' ≡ readOn hash r₀ es₀ ws₀ cs₀ s
+              → recordsIn (applyRecord hash (roomOf es₀ ws₀ cs₀)) here applied place rest ≡ record { state = here; records = applied; place = place; ended = Refused y }
+              → effect (record { answer = Taken; nursery = q .nursery; applied = applied; place = place; ended = q .answer }) es' ws' cs' ≡ readOn hash r₀ es₀ ws₀ cs₀ s
           as-before k y f l =
               rw (
                 ap (λ (z : Stepped). z .result .answer) f,
@@ -118,17 +127,17 @@ module _ (hash : List ℕ → List ℕ) (s : List ℕ) (r₀ : Nursery) (es₀ w
               (closed (Refused y) l)
 
           ends : (y : Refusal) → RecordRefused hash (roomOf es₀ ws₀ cs₀) here rest y
-              → readRest hash (roomOf es₀ ws₀ cs₀) here applied place rest ≡ record { state = here; applied = applied; place = place; ended = Refused y }
-          ends y p = readFrom-refused hash (roomOf es₀ ws₀ cs₀) here applied place y rest some-left (record-refused hash (roomOf es₀ ws₀ cs₀) here rest y .1 p)
+              → recordsIn (applyRecord hash (roomOf es₀ ws₀ cs₀)) here applied place rest ≡ record { state = here; records = applied; place = place; ended = Refused y }
+          ends y p = records-refused (applyRecord hash (roomOf es₀ ws₀ cs₀)) here applied place y rest some-left (record-refused hash (roomOf es₀ ws₀ cs₀) here rest y .1 p)
 
           after : (d : Decoding) (o : Outcome State) → decode hash rest ≡ taken d → applyDelta (roomOf es ws cs) here (d .delta) ≡ o
               → stepped q es' ws' cs' ≡ beside (40 + d .stats .«payload_bytes») (laidOut r es ws cs o)
-              → effect (record { nursery = q .nursery; applied = applied; place = place; ended = q .answer }) es' ws' cs' ≡ readOn hash r₀ es₀ ws₀ cs₀ s
+              → effect (record { answer = Taken; nursery = q .nursery; applied = applied; place = place; ended = q .answer }) es' ws' cs' ≡ readOn hash r₀ es₀ ws₀ cs₀ s
           after d (refused y) i p f = as-before (40 + d .stats .«payload_bytes») y f (ends y (inr (d, i, rw room-same at p)))
           after d (taken t) i p f = absurd (not-refused (sym (ap (λ (z : Stepped). z .result .answer) f) ∙ ended))
 
           go : (o : Outcome Decoding) → decode hash rest ≡ o → stepped q es' ws' cs' ≡ recordOn r es ws cs o
-              → effect (record { nursery = q .nursery; applied = applied; place = place; ended = q .answer }) es' ws' cs' ≡ readOn hash r₀ es₀ ws₀ cs₀ s
+              → effect (record { answer = Taken; nursery = q .nursery; applied = applied; place = place; ended = q .answer }) es' ws' cs' ≡ readOn hash r₀ es₀ ws₀ cs₀ s
           go (refused y) i f = as-before 0 y f (ends y (inl i))
           go (taken d) i f = after d (applyDelta (roomOf es ws cs) here (d .delta)) i refl f
 
@@ -150,7 +159,7 @@ module _ (hash : List ℕ → List ℕ) (s : List ℕ) (r₀ : Nursery) (es₀ w
               let well : WellFormed t = rw same (well-after (d .delta) here (delta-fits 0 inserts removes (d .delta) (omega arith) read (ok .short) .inserts) (ok .new) (is-held .well)) in
               let fit : InRoom (min (length es / 8) (length ws / 5)) (length cs) t = rw same (room-after (roomOf es ws cs) (d .delta) here (ok .fits)) in
               let state-same : stateOf (q .nursery) es' ws' cs' ≡ t = rw (a, f, g, h) (stateOf-laid t (length es) (length ws) (length cs) well (fit .rows-fit) (fit .bytes-fit)) in
-              let turn = readFrom-taken hash (roomOf es₀ ws₀ cs₀) here applied place t size rest some-left (record-taken hash (roomOf es₀ ws₀ cs₀) here rest t size .1 (d, i, rw room-same at p, refl)) in
+              let turn = records-taken (applyRecord hash (roomOf es₀ ws₀ cs₀)) here applied place t size rest some-left (record-taken hash (roomOf es₀ ws₀ cs₀) here rest t size .1 (d, i, rw room-same at p, refl)) in
               let left = length-drop place s in
               record {
                 some = omega (arith, b);
@@ -164,6 +173,7 @@ module _ (hash : List ℕ → List ℕ) (s : List ℕ) (r₀ : Nursery) (es₀ w
                       size-cs = ap length h ∙ length-cellsTable t (length es) (length ws) (length cs) well (fit .rows-fit) (fit .bytes-fit) ∙ x .size-cs;
                       inside = omega (arith, b, left, whole .inside);
                       counted = omega (arith, b, x .counted);
+                      reached = rw b (reached-next hash s size d (x .reached) i refl);
                       leads = rw (state-same, add-one applied, b, ← drop-drop (40 + size) place s) (sym turn ∙ x .leads);
                     };
               }
@@ -208,8 +218,8 @@ module _ (es ws cs : List ℕ) (c : Committed) (es' ws' cs' : List ℕ) (e : nur
   pub fresh-holds : holds (c .nursery) es' ws' cs' ≡ true
   fresh-holds = rw (is-record, is-entries, is-waiting, is-cells) (holds-laid empty (length es) (length ws) (length cs) well-empty no-rows no-bytes)
 
-  pub fresh-read : (hash : List ℕ → List ℕ) (s : List ℕ) → readOn hash (c .nursery) es' ws' cs' s ≡ readCall hash s es ws cs
-  unfolding readOn endOn readCall readJournal laid roomOf
+  pub fresh-read : (hash : List ℕ → List ℕ) (s : List ℕ) → readOn hash (c .nursery) es' ws' cs' s ≡ readOut es ws cs (readJournal hash (roomOf es ws cs) s)
+  unfolding readOn readOut readJournal laid roomOf
   fresh-read hash s =
       rw (
         is-record,
@@ -221,3 +231,19 @@ module _ (es ws cs : List ℕ) (c : Committed) (es' ws' cs' : List ℕ) (e : nur
         length-waitingTable empty (length es) (length ws) (length cs) well-empty no-rows no-bytes,
         length-cellsTable empty (length es) (length ws) (length cs) well-empty no-rows no-bytes,
       )
+
+-- ---- the call, by its first pass
+module _ (hash : List ℕ → List ℕ) (s : List ℕ) where
+  pub pass-says : (x : JournalScan) (b : Bool) → x ≡ scan hash s → b ≡ damages (x .ended) → damaged hash s ≡ b
+  unfolding damaged
+  pass-says x b e f = rw (← e) (sym f)
+
+  module _ (es ws cs : List ℕ) where
+    pub not-read : damaged hash s ≡ true
+        → effect (record { answer = Refused Damaged; nursery = record { entries = 0; waiting = 0; «cell_bytes» = 0 }; applied = 0; place = 0; ended = Taken }) es ws cs ≡ readCall hash s es ws cs
+    unfolding readCall notRead recordOf empty cellBytes sumOf
+    not-read e = rw e
+
+    pub read : damaged hash s ≡ false → readOut es ws cs (readJournal hash (roomOf es ws cs) s) ≡ readCall hash s es ws cs
+    unfolding readCall
+    read e = rw e

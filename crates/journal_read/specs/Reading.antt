@@ -7,9 +7,9 @@ use Rattle.base.specs.Answers.{Outcome, refused, taken}
 use Rattle.cell_nursery.specs.declared.Nursery.{Nursery}
 use Rattle.cell_nursery.specs.Delta.{applyDelta}
 use Rattle.cell_nursery.specs.Layout.{roomOf, stateOf}
-use Rattle.cell_nursery.specs.Calls.{Changed, laid, laidOut}
+use Rattle.cell_nursery.specs.Calls.{Changed, laidOut}
 use Rattle.format.specs.Record.{Decoding, decode}
-use Rattle.journal.specs.Journal.{End, ReadIn, effect, readFrom}
+use Rattle.journal.specs.Journal.{recordsFrom, applyRecord, ReadIn, readOut}
 use Rattle.journal_read.specs.declared.Step.{Step}
 
 -- what a record did, and the tables after it
@@ -36,12 +36,6 @@ recordOn r es ws cs (taken d) =
 unfoldable pub recordCall : (List ℕ → List ℕ) → Nursery → List ℕ → List ℕ → List ℕ → List ℕ → Stepped
 recordCall hash r es ws cs bs = recordOn r es ws cs (decode hash bs)
 
--- how reading ended, its state laid out in tables of the same lengths
-unfoldable pub endOn : List ℕ → List ℕ → List ℕ → End → ReadIn
-endOn es ws cs e =
-    let t = laid es ws cs (e .state) in
-    effect (record { nursery = t .result .nursery; applied = e .applied; place = e .place; ended = e .ended }) (t .entries) (t .waiting) (t .cells)
-
--- a journal read on from the state that the tables hold
+-- a journal's records read on from the state that the tables hold
 unfoldable pub readOn : (List ℕ → List ℕ) → Nursery → List ℕ → List ℕ → List ℕ → List ℕ → ReadIn
-readOn hash r es ws cs bs = endOn es ws cs (readFrom (length bs) hash (roomOf es ws cs) (stateOf r es ws cs) 0 0 bs)
+readOn hash r es ws cs bs = readOut es ws cs (recordsFrom (length bs) (applyRecord hash (roomOf es ws cs)) (stateOf r es ws cs) 0 0 bs)

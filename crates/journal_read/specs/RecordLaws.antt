@@ -7,6 +7,7 @@ use Prim.Native.Nat.{ℕ, _+_, _-_, _≤_}
 use native.Mathlib.Omega.{arith}
 use lib.ListN.{length, take, drop}
 use Rattle.base.specs.Answers.{Outcome, refused, taken}
+use Rattle.base.specs.AnswerLaws.{not-refused}
 use Rattle.base.specs.declared.Refusal.{Refusal}
 use Rattle.base.specs.declared.Answer.the-variants.{Taken, Refused}
 use Rattle.cell_nursery.specs.declared.Nursery.{Nursery}
@@ -19,9 +20,6 @@ use Rattle.format.specs.TakenLaws.{taken-lent}
 use Rattle.journal_read.specs.Reading.{stepped, beside, recordOn, recordCall}
 
 -- ---- decoding's answer
-pub not-refused : {x : Refusal} → Taken ≡ Refused x → ⊥
-not-refused e = let z : _≡_ {A = ℕ} 0 1 = cc in omega arith
-
 module _ (hash : List ℕ → List ℕ) (r : Nursery) (es ws cs bs : List ℕ) (q : Decoded) (e : q ≡ decodeCall hash bs) where
   pub record-refused : (x : Refusal) → q .answer ≡ Refused x → stepped (record { answer = q .answer; nursery = r; len = 0 }) es ws cs ≡ recordCall hash r es ws cs bs
   unfolding decodeCall recordCall decodedOf recordOn laidOut

@@ -1,16 +1,21 @@
-// Reading a journal: its records, one after another, into an empty nursery, up to the first that is refused or whose delta is.
+// Reading a journal: its records, one after another, into an empty nursery, up to the first that is cut or whose delta is refused.
 //
-// What was applied stays. A refused delta changes nothing, so that the tables hold what the records before it made.
+// A first pass has decoded them all, up to the end or the first cut: where one is damaged, nothing is applied. The second doesn't hash them
+// again. What it applied stays. A refused delta changes nothing, so that the tables hold what the records before it made.
 use base::Answer;
+use base::Refusal;
 use cell_nursery::Nursery;
 use journal::JournalRead;
+use journal_scan::damages;
+use journal_scan::scan;
 use nursery_commit::apply_commit_held;
-use record_read::decode_record;
+use record_read::decode_record_held;
 ghost use mathlib.Core.Path.{_≡_};
-ghost use mathlib.Core.Bool.{true};
+ghost use mathlib.Core.Bool.{true, false};
 ghost use Rattle.blake3.specs.Spec.{hash};
 ghost use Rattle.cell_nursery.specs.Layout.{holds};
-ghost use Rattle.journal.specs.Journal.{effect, readCall};
+ghost use Rattle.format.specs.RefusalLaws.{Whole, Matches};
+ghost use Rattle.journal.specs.Journal.{damaged, effect, readCall};
 ghost use Rattle.journal_read.specs.Reading.{stepped, recordCall, readOn};
 
 // What one record did: len is how many bytes it has, 0 where it is none.
@@ -20,12 +25,12 @@ struct Step {
     len: usize,
 }
 
-// The record that s starts with, on tables that hold a state.
+// The record that s starts with, whose hash is right if it is whole, on tables that hold a state.
 fn apply_record(r: Nursery, es: &mut [u64], ws: &mut [u64], cs: &mut [u8], s: &[u8]) -> Step
-    requires { ⌜ holds r (now es) (now ws) (now cs) ≡ true ⌝ }
+    requires { ⌜ (holds r (now es) (now ws) (now cs) ≡ true) × (Whole (now s) → Matches hash (now s)) ⌝ }
     ensures { λ q. ⌜ stepped q (now (es .exit)) (now (ws .exit)) (now (cs .exit)) ≡ recordCall hash r (now (es .entry)) (now (ws .entry)) (now (cs .entry)) (now (s .entry)) ⌝ }
 {
-    let d = decode_record(s);
+    let d = decode_record_held(s);
     let answer = d.answer;
     if let Answer::Refused(_) = answer {
         return Step {
@@ -54,9 +59,9 @@ fn apply_record(r: Nursery, es: &mut [u64], ws: &mut [u64], cs: &mut [u8], s: &[
     }
 }
 
-// The records of s, on tables that hold a state. The place stays before the record that ends the reading.
+// The records of s, none of which is damaged, on tables that hold a state. The place stays before the record that ends the reading.
 fn read_records(r: Nursery, es: &mut [u64], ws: &mut [u64], cs: &mut [u8], s: &[u8]) -> JournalRead
-    requires { ⌜ holds r (now es) (now ws) (now cs) ≡ true ⌝ }
+    requires { ⌜ (holds r (now es) (now ws) (now cs) ≡ true) × (damaged hash (now s) ≡ false) ⌝ }
     ensures { λ j. ⌜ effect j (now (es .exit)) (now (ws .exit)) (now (cs .exit)) ≡ readOn hash r (now (es .entry)) (now (ws .entry)) (now (cs .entry)) (now (s .entry)) ⌝ }
 {
     let mut q = r;
@@ -66,6 +71,7 @@ fn read_records(r: Nursery, es: &mut [u64], ws: &mut [u64], cs: &mut [u8], s: &[
     loop {
         if place == end {
             break JournalRead {
+                answer: Answer::Taken,
                 nursery: q,
                 applied,
                 place: end,
@@ -79,6 +85,7 @@ fn read_records(r: Nursery, es: &mut [u64], ws: &mut [u64], cs: &mut [u8], s: &[
         let ended = step.answer;
         if let Answer::Refused(_) = ended {
             break JournalRead {
+                answer: Answer::Taken,
                 nursery: q,
                 applied,
                 place,
@@ -94,6 +101,21 @@ fn read_records(r: Nursery, es: &mut [u64], ws: &mut [u64], cs: &mut [u8], s: &[
 pub fn read_journal(s: &[u8], es: &mut [u64], ws: &mut [u64], cs: &mut [u8]) -> JournalRead
     ensures { λ j. ⌜ effect j (now (es .exit)) (now (ws .exit)) (now (cs .exit)) ≡ readCall hash (now (s .entry)) (now (es .entry)) (now (ws .entry)) (now (cs .entry)) ⌝ }
 {
+    let pass = scan(s);
+    let ended = pass.ended;
+    if damages(ended) {
+        return JournalRead {
+            answer: Answer::Refused(Refusal::Damaged),
+            nursery: Nursery {
+                entries: 0,
+                waiting: 0,
+                cell_bytes: 0,
+            },
+            applied: 0,
+            place: 0,
+            ended: Answer::Taken,
+        };
+    }
     let fresh = nursery_table::new(es, ws, cs);
     read_records(fresh.nursery, es, ws, cs, s)
 }

@@ -13,45 +13,49 @@ use Rattle.base.specs.Bytes.{unle}
 use Rattle.base.specs.Answers.{refused}
 use Rattle.base.specs.declared.Refusal.the-variants.{ShortRecord, FarLength, Mismatch, Misfit}
 use Rattle.base.specs.declared.Answer.the-variants.{Taken}
-use Rattle.slices.specs.Laws.{part-front, length-part, drop-take, paste-start}
+use Rattle.slices.specs.Laws.{part-front, length-part, drop-take, paste-start, eqbList-refl}
 use Rattle.cell_nursery.specs.Entries.{cellBytes}
 use Rattle.cell_nursery.specs.Items.{deltaOf}
 use Rattle.delta_items.specs.Walk.{insertsIn, insertsLen, itemsFit, deltaIn}
 use Rattle.delta_items.specs.WalkLaws.{delta-whole, delta-none, fit-inserts, cells-left, length-inserts, length-hashes}
 use Rattle.format.specs.Record.{decode, statsOf}
 use Rattle.format.specs.Calls.{decodedOf, decodeCall}
-use Rattle.format.specs.RefusalLaws.{payload-short, payload-past, payload-items}
-use Rattle.record_read.specs.Judged.{decodingOf, payloadCall}
+use Rattle.format.specs.RefusalLaws.{stated, Whole, Matches, payload-short, payload-past, payload-items}
+use Rattle.record_read.specs.declared.Framed.the-variants.{Len}
+use Rattle.record_read.specs.Judged.{decodingOf, payloadCall, Framing}
 
 -- ---- the tests before the payload's
 
 module _ (hash : List ℕ → List ℕ) (bs : List ℕ) where
-  -- the length that is stated
-  abbrev pub statedLen : ℕ
-  statedLen = unle (take 8 (drop 32 bs))
-
   pub decode-short : length bs < 40 → decodeCall hash bs ≡ decodedOf (refused ShortRecord)
   unfolding decodeCall decode
   decode-short h = rw (lt-ltb (length bs) 40 h)
 
   module _ (whole : 40 ≤ length bs) where
-    pub decode-far : 2 ^ 64 - 8 ≤ statedLen → decodeCall hash bs ≡ decodedOf (refused FarLength)
+    pub decode-far : 2 ^ 64 - 8 ≤ stated bs → decodeCall hash bs ≡ decodedOf (refused FarLength)
     unfolding decodeCall decode
-    decode-far f = rw (le-ltb (length bs) 40 whole, le-leb (2 ^ 64 - 8) statedLen f)
+    decode-far f = rw (le-ltb (length bs) 40 whole, le-leb (2 ^ 64 - 8) (stated bs) f)
 
-    module _ (near : statedLen < 2 ^ 64 - 8) where
-      pub decode-cut : length bs < 40 + statedLen → decodeCall hash bs ≡ decodedOf (refused ShortRecord)
-      unfolding decodeCall decode
-      decode-cut h = rw (le-ltb (length bs) 40 whole, lt-leb (2 ^ 64 - 8) statedLen near, lt-ltb (length bs) (40 + statedLen) h)
+    pub decode-cut : stated bs < 2 ^ 64 - 8 → length bs < 40 + stated bs → decodeCall hash bs ≡ decodedOf (refused ShortRecord)
+    unfolding decodeCall decode
+    decode-cut near h = rw (le-ltb (length bs) 40 whole, lt-leb (2 ^ 64 - 8) (stated bs) near, lt-ltb (length bs) (40 + stated bs) h)
 
-      module _ (long : 40 + statedLen ≤ length bs) where
-        pub decode-mismatch : eqbList (hash (take (8 + statedLen) (drop 32 bs))) (take 32 bs) ≡ false → decodeCall hash bs ≡ decodedOf (refused Mismatch)
-        unfolding decodeCall decode
-        decode-mismatch e = rw (le-ltb (length bs) 40 whole, lt-leb (2 ^ 64 - 8) statedLen near, le-ltb (length bs) (40 + statedLen) long, e)
+  -- a whole record, whose payload has n bytes
+  module _ (n : ℕ) (framed : Framing bs (Len n)) where
+    head : 40 ≤ length bs
+    head = omega (arith, framed .1 .1)
 
-        pub decode-payload : eqbList (hash (take (8 + statedLen) (drop 32 bs))) (take 32 bs) ≡ true → decodeCall hash bs ≡ payloadCall statedLen bs
-        unfolding decodeCall decode payloadCall decodingOf
-        decode-payload e = rw (le-ltb (length bs) 40 whole, lt-leb (2 ^ 64 - 8) statedLen near, le-ltb (length bs) (40 + statedLen) long, e)
+    pub decode-mismatch : eqbList (hash (take (8 + n) (drop 32 bs))) (take 32 bs) ≡ false → decodeCall hash bs ≡ decodedOf (refused Mismatch)
+    unfolding decodeCall decode
+    decode-mismatch e = rw (le-ltb (length bs) 40 head, lt-leb (2 ^ 64 - 8) (stated bs) (framed .1 .0), le-ltb (length bs) (40 + stated bs) (framed .1 .1), ← framed .0, e)
+
+    pub decode-payload : eqbList (hash (take (8 + n) (drop 32 bs))) (take 32 bs) ≡ true → decodeCall hash bs ≡ payloadCall n bs
+    unfolding decodeCall decode payloadCall decodingOf
+    decode-payload e = rw (le-ltb (length bs) 40 head, lt-leb (2 ^ 64 - 8) (stated bs) (framed .1 .0), le-ltb (length bs) (40 + stated bs) (framed .1 .1), ← framed .0, e)
+
+    -- its hash is known to be right
+    pub decode-held : (Whole bs → Matches hash bs) → decodeCall hash bs ≡ payloadCall n bs
+    decode-held known = decode-payload (rw (framed .0, known (framed .1)) (eqbList-refl (take 32 bs)))
 
 -- ---- the payload of n bytes of a record, by places in the record
 

@@ -19,7 +19,14 @@ ghost use Rattle.base.specs.Logic.{eqbList};
 ghost use Rattle.base.specs.Answers.{refused};
 ghost use Rattle.blake3.specs.Spec.{hash};
 ghost use Rattle.format.specs.Calls.{decodedOf, decodeCall};
-ghost use Rattle.record_read.specs.Judged.{payloadCall};
+ghost use Rattle.format.specs.RefusalLaws.{Whole, Matches};
+ghost use Rattle.record_read.specs.Judged.{payloadCall, Framing};
+
+// The length of a whole record's payload, or the refusal by the tests before the hash.
+enum Framed {
+    Len(usize),
+    Refused(Refusal),
+}
 
 // What stands beside a refusal.
 fn refusal(r: Refusal) -> Decoded
@@ -88,23 +95,48 @@ fn decode_payload(s: &[u8], n: usize) -> Decoded
     }
 }
 
+// The tests before the hash.
+fn frame(s: &[u8]) -> Framed
+    ensures { λ r. ⌜ Framing (now (s .entry)) r ⌝ }
+{
+    if s.len() < 40 {
+        return Framed::Refused(Refusal::ShortRecord);
+    }
+    let n = read_le64(s, 32);
+    if 18446744073709551608 <= n {
+        return Framed::Refused(Refusal::FarLength);
+    }
+    let n = n as usize;
+    if s.len() - 40 < n {
+        return Framed::Refused(Refusal::ShortRecord);
+    }
+    Framed::Len(n)
+}
+
 // Decodes the record that s starts with; what follows it is ignored.
 pub fn decode_record(s: &[u8]) -> Decoded
     ensures { λ r. ⌜ r ≡ decodeCall hash (now (s .entry)) ⌝ }
 {
-    if s.len() < 40 {
-        return refusal(Refusal::ShortRecord);
+    let f = frame(s);
+    match f {
+        Framed::Refused(r) => refusal(r),
+        Framed::Len(n) => {
+            if !hash_matches(s, n) {
+                return refusal(Refusal::Mismatch);
+            }
+            decode_payload(s, n)
+        }
     }
-    let n = read_le64(s, 32);
-    if 18446744073709551608 <= n {
-        return refusal(Refusal::FarLength);
+}
+
+// Decodes as decode_record does, where the hash of a whole record is known to be right: it isn't worked out again.
+pub fn decode_record_held(s: &[u8]) -> Decoded
+    requires { ⌜ (Whole (now s) → Matches hash (now s)) ⌝ }
+    ensures { λ r. ⌜ r ≡ decodeCall hash (now (s .entry)) ⌝ }
+{
+    let f = frame(s);
+    match f {
+        Framed::Refused(r) => refusal(r),
+        Framed::Len(n) => decode_payload(s, n),
     }
-    let n = n as usize;
-    if s.len() - 40 < n {
-        return refusal(Refusal::ShortRecord);
-    }
-    if !hash_matches(s, n) {
-        return refusal(Refusal::Mismatch);
-    }
-    decode_payload(s, n)
 }

@@ -14,8 +14,8 @@ use borrow.Author.Needs.{needs}
 use Rattle.journal_read.proofs.apply_record.Statement.{statement}
 use Rattle.journal_read.proofs.apply_record.Tie as tie
 
-decode-record-requires : tie.Need-decode-record-requires
-decode-record-requires c κs = search needs
+decode-record-held-requires : tie.Need-decode-record-held-requires
+decode-record-held-requires c κs = search needs
 
 enum-told : tie.Need-enum-told
 enum-told c = search needs
@@ -23,7 +23,7 @@ enum-told c = search needs
 returns : tie.Need-returns
 returns c =
     let a = c .before .before .before .before .before .before .before .args in
-    record-refused hash (a .r) (a .es .now) (a .ws .now) (a .cs .now) (a .s .now) (c .before .before .decode-record .result) (c .before .before .decode-record .ensures) (c .enum-told .given .0 .0) (c .enum-told .given .1)
+    record-refused hash (a .r) (a .es .now) (a .ws .now) (a .cs .now) (a .s .now) (c .before .before .decode-record-held .result) (c .before .before .decode-record-held .ensures) (c .enum-told .given .0 .0) (c .enum-told .given .1)
 
 enum-told-2 : tie.Need-enum-told-2
 enum-told-2 c = search needs
@@ -32,7 +32,7 @@ add-len : tie.Need-add-len
 add-len c =
     let f = c .before .before .before in
     let a = f .before .before .before .before .before .args in
-    let w = record-taken hash (a .r) (a .es .now) (a .ws .now) (a .cs .now) (a .s .now) (f .decode-record .result) (f .decode-record .ensures) (c .before .enum-told2 .given .1) in
+    let w = record-taken hash (a .r) (a .es .now) (a .ws .now) (a .cs .now) (a .s .now) (f .decode-record-held .result) (f .decode-record-held .ensures) (c .before .enum-told2 .given .1) in
     let g = f .before .before .before .before .before .good in
     omega (arith, w .inside)
 
@@ -46,7 +46,7 @@ part-apply-commit-held-end : tie.Need-part-apply-commit-held-end
 part-apply-commit-held-end c =
     let f = c .before .before .before .before .before .before in
     let a = f .before .before .before .before .before .args in
-    let w = record-taken hash (a .r) (a .es .now) (a .ws .now) (a .cs .now) (a .s .now) (f .decode-record .result) (f .decode-record .ensures) (c .before .before .before .before .enum-told2 .given .1) in
+    let w = record-taken hash (a .r) (a .es .now) (a .ws .now) (a .cs .now) (a .s .now) (f .decode-record-held .result) (f .decode-record-held .ensures) (c .before .before .before .before .enum-told2 .given .1) in
     w .inside
 
 apply-commit-held-requires : tie.Need-apply-commit-held-requires
@@ -65,19 +65,19 @@ returns-2 : tie.Need-returns-2
 returns-2 c =
     let f = c .before .before .before .before .before .before .before .before .before .before .before .before .before .before .before in
     let a = f .before .before .before .before .before .args in
-    let w = record-taken hash (a .r) (a .es .now) (a .ws .now) (a .cs .now) (a .s .now) (f .decode-record .result) (f .decode-record .ensures) (c .before .before .before .before .before .before .before .before .before .before .before .before .before .enum-told2 .given .1) in
-    let d = f .decode-record .result in
+    let w = record-taken hash (a .r) (a .es .now) (a .ws .now) (a .cs .now) (a .s .now) (f .decode-record-held .result) (f .decode-record-held .ensures) (c .before .before .before .before .before .before .before .before .before .before .before .before .before .enum-told2 .given .1) in
+    let d = f .decode-record-held .result in
     let n = d .«items_len» in
     ap (λ (x : Changed). beside (56 + n) x)
     (c .before .before .before .before .before .before .before .apply-commit-held .ensures
     ∙ ap (λ (l : List ℕ). deltaCall (a .r) (a .es .now) (a .ws .now) (a .cs .now) false (d .stats .«insert_ops») (d .stats .«remove_ops») l) (part-lent (a .s .now) 56 (56 + n) n refl))
-    ∙ w .call (f .before .before .before .before .before .pre)
+    ∙ w .call (f .before .before .before .before .before .pre .0)
 
 pub apply-record-spec : {M : Type 1} → statement M
 apply-record-spec =
     tie.close
     (tie.spec
-    decode-record-requires
+    decode-record-held-requires
     enum-told
     returns
     enum-told-2

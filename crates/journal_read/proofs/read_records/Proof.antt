@@ -6,7 +6,8 @@ use Prim.Native.Nat.{_-_}
 use native.Mathlib.Omega.{arith}
 use lib.ListN.{length}
 use Rattle.blake3.specs.Spec.{hash}
-use Rattle.journal_read.specs.ReadLaws.{Reading, Applied, reach, advanced, stopped, finished}
+use Rattle.journal_laws.specs.EndLaws.{start}
+use Rattle.journal_read.specs.ReadLaws.{Reading, Applied, known, reach, advanced, stopped, finished}
 use Rattle.journal_read.proofs.read_records.Statement.{statement}
 use Rattle.journal_read.proofs.read_records.Tie as tie
 
@@ -37,12 +38,13 @@ loop-holds c =
     record {
       u64-es = λ i. c .before .before .before .slice-known .given i .fits;
       u64-ws = λ i. c .before .before .slice-known2 .given i .fits;
-      holding = c .before .before .before .before .pre;
+      holding = c .before .before .before .before .pre .0;
       size-es = refl;
       size-ws = refl;
       size-cs = refl;
       inside = omega arith;
       counted = omega arith;
+      reached = start;
       leads = refl;
     }
 
@@ -56,7 +58,13 @@ part-apply-record-end : tie.Need-part-apply-record-end Inv-loop μ-loop
 part-apply-record-end c = omega (arith, c .before .before .before .before .loop .inv .inside)
 
 apply-record-requires : tie.Need-apply-record-requires Inv-loop μ-loop
-apply-record-requires c κs = c .before .before .before .before .before .loop .inv .holding
+apply-record-requires c κs =
+    let f = c .before .before .before .before .before in
+    let a = f .before .before .before .before .before .args in
+    let l = f .loop in (
+      l .inv .holding,
+      known hash (a .s .now) (a .r) (a .es .now) (a .ws .now) (a .cs .now) (l .q) (l .es) (l .ws) (l .cs) (l .applied) (l .place) (l .inv) (f .before .before .before .before .before .pre .1),
+    )
 
 add-after : tie.Need-add-after Inv-loop μ-loop
 add-after c =
