@@ -9,6 +9,7 @@ use Prim.Native.Nat.{ℕ, _/_, _^_, _≤_, _<_, min}
 use native.Mathlib.Omega.{arith}
 use lib.ListN.{length}
 use Rattle.base.specs.Answers.{Outcome, refused, taken, _>>=_, orRefuse}
+use Rattle.base.specs.AnswerLaws.{not-refused}
 use Rattle.base.specs.Output.{fitting}
 use Rattle.base.specs.declared.Answer.the-variants.{Taken, Refused}
 use Rattle.base.specs.declared.Refusal.{Refusal}
@@ -98,9 +99,6 @@ unfolding newCall
 new-nursery es ws cs = laid-held es ws cs empty well-empty (room-empty _ _)
 
 -- ---- a delta
-not-refused : {r : Refusal} → Taken ≡ Refused r → ⊥
-not-refused e = let z : _≡_ {A = ℕ} 0 1 = cc in omega arith
-
 module _ {le lw lc : ℕ} {r : Nursery} {es ws cs : List ℕ} {s : State} (h : NurseryHeld le lw lc r es ws cs s) where
   pub room-same : roomOf es ws cs ≡ roomFor le lw lc
   unfolding roomOf

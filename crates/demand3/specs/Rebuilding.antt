@@ -1,6 +1,7 @@
 -- Claim 3: the box read in from a box's snapshot and the first bytes of its journal.
 -- Assumes nothing.
 use mathlib.Core.Path.{_≡_, refl, sym, ap, subst, _∙_}
+use mathlib.Core.Bool.{false}
 use mathlib.Core.List.{List, [], map}
 use Prim.Native.Nat.{ℕ, _≤_}
 use lib.ListN.{length, take, length-map}
@@ -20,9 +21,9 @@ use Rattle.cell_nursery.specs.Drain.{listingBytes}
 use Rattle.cell_nursery.specs.Layout.{recordOf, roomOf}
 use Rattle.cell_nursery.specs.Calls.{laid}
 use Rattle.cell_nursery.specs.EntryLaws.{well-empty, room-empty}
-use Rattle.journal.specs.Journal.{End, readJournal, readCall}
+use Rattle.journal.specs.Journal.{damaged, readJournal, ReadIn, readOut, readCall}
 use Rattle.cell_nursery.specs.WaitLaws.{Waits, waits-empty}
-use Rattle.journal_laws.specs.ReadLaws.{endOf, Applies, applies-whole, applied-waits, applied-well, applied-fits, journal-cut}
+use Rattle.journal_laws.specs.ReadLaws.{endOf, Applies, applies-whole, applied-waits, applied-well, applied-fits, journal-cut, cut-undamaged}
 use Rattle.node_box.specs.Box.{Box, snapshotOf, listingOf}
 use Rattle.node_box.specs.Journal.{Logged, records, journalOf, whole, listingAfter, rebuild, cutEnd}
 use Rattle.node_box.specs.Demand.{History, Typed, start, end, wholeOf, wholeBytes, readBack, Rebuilt}
@@ -60,6 +61,12 @@ module _ (a : History) (ok : Typed a) (k : ℕ) (short : k ≤ length (journalOf
   unfolding applied-steps
   applies = applies-whole hash (λ s. s .id) (λ s. s .change) room (trace .applies) k
 
+  -- none of the records is damaged, wherever the journal is cut
+  pub undamaged : damaged hash (take k (journalOf hash (start a) (a .calls))) ≡ false
+  undamaged =
+      rw journal-is
+      (cut-undamaged hash (λ s. s .id) (λ s. s .change) length-hash room (trace .steps) (trace .applies) k (rw journal-is at short))
+
   -- the nursery after them, in which every entry waits
   state : entries.State
   state = afterSteps hash applied-steps empty
@@ -76,11 +83,18 @@ module _ (a : History) (ok : Typed a) (k : ℕ) (short : k ≤ length (journalOf
     room-same = rw (le, lw, lc)
 
     reading : readJournal hash (roomOf es ws cs) (take k (journalOf hash (start a) (a .calls)))
-        ≡ record { state = state; applied = length applied-steps; place = length (stepBytes hash applied-steps); ended = endOf (length (stepBytes hash applied-steps)) k }
+        ≡ record { state = state; records = length applied-steps; place = length (stepBytes hash applied-steps); ended = endOf (length (stepBytes hash applied-steps)) k }
     unfolding state applied-steps
     reading =
         rw (room-same, journal-is)
-        (journal-cut hash (λ s. s .id) (λ s. s .change) room length-hash (trace .steps) (trace .applies) k (rw journal-is at short))
+        (journal-cut hash (λ s. s .id) (λ s. s .change) length-hash room (trace .steps) (trace .applies) k (rw journal-is at short))
+
+    -- so the reading is taken
+    read-is : readCall hash (take k (journalOf hash (start a) (a .calls))) es ws cs
+        ≡ readOut es ws cs
+        (record { state = state; records = length applied-steps; place = length (stepBytes hash applied-steps); ended = endOf (length (stepBytes hash applied-steps)) k })
+    unfolding readCall
+    read-is = rw (undamaged, reading)
 
     nursery-read : ChangedHeld (length es) (length ws) (length cs) (laid es ws cs state) state
     unfolding state
@@ -115,8 +129,9 @@ module _ (a : History) (ok : Typed a) (k : ℕ) (short : k ≤ length (journalOf
         (record { next-fits = w .next-fits; live-fits = w .live-fits; sorted = w .sorted; counts-fit = w .counts-fit }))
 
     nursery-held : NurseryHeld (length es) (length ws) (length cs) (box .nursery) (box .entries) (box .waiting) (box .cells) state
-    unfolding readBack rebuild readCall
-    nursery-held = subst (λ (e : End). ChangedHeld (length es) (length ws) (length cs) (laid es ws cs (e .state)) state) (sym reading) nursery-read
+    unfolding readBack rebuild readOut
+    nursery-held =
+        subst (λ (r : ReadIn). NurseryHeld (length es) (length ws) (length cs) (r .result .nursery) (r .entries) (r .waiting) (r .cells) state) (sym read-is) nursery-read
 
     snapshot-read : snapshotOf box ≡ snapshotOf (end a)
     snapshot-read = snapshot-is box counters-held ∙ snapshot-same renewedCounters counters refl refl refl ∙ sym (snapshot-is (end a) was-held)
@@ -128,14 +143,14 @@ module _ (a : History) (ok : Typed a) (k : ℕ) (short : k ≤ length (journalOf
         ∙ ap (λ (rs : List Logged). listingAfter [] rs) (sym whole-is)
 
     pub rebuilt : Rebuilt a k (readBack a k t es ws cs)
-    unfolding readBack rebuild readCall cutEnd recordOf laid counters-calls.laid
+    unfolding readBack rebuild readOut cutEnd recordOf laid counters-calls.laid
     rebuilt =
         record {
-          answer = ap (λ (r : counters-calls.Changed). r .result .answer) counters-read;
+          answer = rw (counters-read, read-is);
           snapshot = snapshot-read;
           listing = listing-read;
-          applied = rw (reading, whole-is) (sym (length-map applied-steps (logged hash)));
-          place = rw reading (sym bytes-are);
-          ended = rw (reading, bytes-are);
+          applied = ap (λ (r : ReadIn). r .result .applied) read-is ∙ rw whole-is (sym (length-map applied-steps (logged hash)));
+          place = ap (λ (r : ReadIn). r .result .place) read-is ∙ sym bytes-are;
+          ended = ap (λ (r : ReadIn). r .result .ended) read-is ∙ rw bytes-are;
           waiting = rw (nursery-state nursery-held) (every-waits state all-wait (nursery-held .well .hashes));
         }

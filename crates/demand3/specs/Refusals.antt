@@ -14,7 +14,7 @@ use borrow.Author.Tests.{eqb-true, eqb-false}
 use Rattle.base.specs.Logic.{pick, any, elem, max64}
 use Rattle.base.specs.Answers.{taken, _>>=_, orRefuse, answerOf, numberOf}
 use Rattle.base.specs.Output.{fitting}
-use Rattle.base.specs.declared.Answer.the-variants.{Taken, Refused}
+use Rattle.base.specs.declared.Answer.the-variants.{Refused}
 use Rattle.base.specs.declared.Refusal.{Refusal}
 use Rattle.base.specs.declared.Refusal.the-variants.{Spent, Unallocated, Repeated, OffTotal, FalseOld, TableFull, Present, NurseryFull, TooLong, OutputFull, Broken}
 use Rattle.rows.specs.Table.{rowsOf}
@@ -30,7 +30,7 @@ use Rattle.cell_nursery.specs.Items.{Delta, deltaOf}
 use Rattle.cell_nursery.specs.Delta.{Room, applyDelta}
 use Rattle.cell_nursery.specs.Drain.{promotionDelay, drainBytes, listingBytes}
 use Rattle.cell_nursery.specs.Calls.{lengthWidth}
-use Rattle.base.specs.AnswerLaws.{exactly, missing-here, missing-numbers, output-full, output-numbers, says, says-numbers}
+use Rattle.base.specs.AnswerLaws.{not-refused, exactly, missing-here, missing-numbers, output-full, output-numbers, says, says-numbers}
 use Rattle.cell_nursery.specs.RefusalLaws.{IsLong, IsPresent, IsFull, delta-long, delta-present, delta-full, delta-numbers}
 use Rattle.node_box.specs.Box.{Box, Call, allocate, batch, batchRecords, delta, drain, get, shrink, adjust, measure, serialize, lookup, locate, listing, step, countersOf, nurseryOf}
 use Rattle.node_box.specs.Demand.{History, Typed, end}
@@ -144,9 +144,6 @@ module _ {z : Sizes} {b : Box} {c : counts.State} {n : entries.State} (h : Holds
   unfolding answerTo
   call-numbers x q e = go x (sym (answer-is h x) ∙ e)
     where
-      never : {r : Refusal} → Taken ≡ Refused r → ⊥
-      never p = let y : _≡_ {A = ℕ} 0 1 = cc in omega arith
-
       go : (y : Call) → answerTo z c n y ≡ Refused q → elem (numberOf q) (numbersOf y) ≡ true
       go allocate p = says-numbers (1 ∷ []) (counts.allocate (c .next)) refl (allocate-numbers (c .next)) q p
       go (batch words) p =
@@ -159,12 +156,12 @@ module _ {z : Sizes} {b : Box} {c : counts.State} {n : entries.State} (h : Holds
           (missing-numbers Broken spelled (applyDelta (roomIn z) n) (14 ∷ 12 ∷ 13 ∷ []) (λ d. delta-numbers (roomIn z) n d)) q p
       go (drain round out) p = let bs = drainBytes promotionDelay round n in says-numbers (15 ∷ []) (fitting out (taken bs)) refl (output-numbers out bs) q p
       go (get idx) p = says-numbers (2 ∷ []) (counts.get c idx) refl (get-numbers c idx) q p
-      go (shrink saved) p = absurd (never p)
-      go (adjust saved) p = absurd (never p)
-      go measure p = absurd (never p)
+      go (shrink saved) p = absurd (not-refused p)
+      go (adjust saved) p = absurd (not-refused p)
+      go measure p = absurd (not-refused p)
       go (serialize out) p = says-numbers (15 ∷ []) (fitting out (taken (snapshotBytes c))) refl (output-numbers out (snapshotBytes c)) q p
-      go (lookup hash) p = absurd (never p)
-      go (locate hash) p = absurd (never p)
+      go (lookup hash) p = absurd (not-refused p)
+      go (locate hash) p = absurd (not-refused p)
       go (listing out) p = let bs = listingBytes (n .entries) in says-numbers (15 ∷ []) (fitting out (taken bs)) refl (output-numbers out bs) q p
 
   -- 20 only where nothing is spelled

@@ -132,10 +132,10 @@ pub record PromotedOnce (e : Entry) (b : Box) (xs : List Call) : Type 0 where
       (drainInto (run b xs) round out .result .len ≡ length written) × (drainInto (run b xs) round out .out ≡ overlay written out)
 
 pub record Promotion : Type 0 where
-  -- a box that is made, or read in from a snapshot and a journal of any bytes, holds a state, and any call on one leaves one; the cells are a slice
+  -- a box that is made, or read in from any snapshot and journal that are taken, holds a state, and any call on one leaves one; the cells are a slice
   pub made-holds : (next : ℕ) (t es ws cs : List ℕ) → length cs < 2 ^ 64 → HoldsState (made next t es ws cs)
   pub rebuilt-holds : (snapshot journal t es ws cs : List ℕ) → all (λ b. ltb b 256) journal ≡ true → length cs < 2 ^ 64
-      → HoldsState (rebuild hash snapshot journal t es ws cs .box)
+      → rebuild hash snapshot journal t es ws cs .answer ≡ Taken → HoldsState (rebuild hash snapshot journal t es ws cs .box)
   pub called-holds : (b : Box) (x : Call) → HoldsState b → typed x ≡ true → length (b .cells) < 2 ^ 64 → HoldsState (step b x .1)
   -- an entry that isn't removed is handed out once, whatever is called from its insert on
   pub once : (e : Entry) (b : Box) (x : Call) (xs : List Call) → Inserted e b x xs → PromotedOnce e b (x ∷ xs)

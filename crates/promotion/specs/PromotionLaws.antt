@@ -1,6 +1,6 @@
 -- An entry that isn't removed is handed out exactly once.
 -- Assumes nothing.
-use mathlib.Core.Path.{_≡_, refl, ap, _∙_}
+use mathlib.Core.Path.{_≡_, refl, sym, ap, subst, _∙_}
 use mathlib.Core.Bool.{Bool, true, false, not, _&&_, _||_, and-false, or-assoc}
 use mathlib.Core.Bool.{or-false as or-none}
 use mathlib.Core.Option.{Option, none, some}
@@ -14,8 +14,10 @@ use Rattle.base.specs.Logic.{pick, all, elem, flat, keep, zeros, overlay}
 use Rattle.base.specs.ListLaws.{or-false, Among, keep-append, all-append, all-head, all-tail, all-left, all-right}
 use Rattle.base.specs.Maybe.{maybe}
 use Rattle.base.specs.Answers.{taken, _>>_, refuseIf}
+use Rattle.base.specs.AnswerLaws.{not-refused}
 use Rattle.base.specs.Output.{fitting}
-use Rattle.base.specs.declared.Answer.the-variants.{Taken}
+use Rattle.base.specs.declared.Answer.{Answer}
+use Rattle.base.specs.declared.Answer.the-variants.{Taken, Refused}
 use Rattle.base.specs.declared.Refusal.the-variants.{OutputFull}
 use Rattle.blake3.specs.Spec.{hash}
 use Rattle.cell_nursery.specs.Entries.{Entry, State, empty}
@@ -23,10 +25,13 @@ use Rattle.cell_nursery.specs.Drain.{promotionDelay, due, promoted, promotedByt
 use Rattle.cell_nursery.specs.DrainLaws.{named-absent}
 use Rattle.cell_nursery.specs.Layout.{entriesTable, waitingTable, roomOf}
 use Rattle.cell_nursery.specs.Calls.{DrainedOut, drainedOut}
-use Rattle.journal.specs.Journal.{readJournal, readCall}
+use Rattle.counters.specs.Maintenance.{standard}
+use Rattle.snapshot.specs.Calls.{deserializeCall}
+use Rattle.journal.specs.Journal.{readJournal, ReadIn, readOut, readCall}
+use Rattle.journal.specs.ReadLaws.{read-taken}
 use Rattle.journal_laws.specs.LoadLaws.{journal-loaded}
 use Rattle.node_box.specs.Box.{Box, Call, allocate, batch, batchRecords, delta, drain, get, shrink, adjust, measure, serialize, lookup, locate, listing, made, accepted, drainInto, step, run, nurseryOf}
-use Rattle.node_box.specs.Journal.{rebuild}
+use Rattle.node_box.specs.Journal.{bothTaken, rebuild}
 use Rattle.node_box.specs.Demand.{typed}
 use Rattle.demand3.specs.States.{nurseryAfter}
 use Rattle.demand3.specs.NurseryHeld.{NurseryHeld, held-nursery, laid-held, new-nursery, nursery-holds, nursery-state, delta-taken, drain-outcome}
@@ -69,12 +74,22 @@ made-holds : (next : ℕ) (t es ws cs : List ℕ) → length cs < 2 ^ 64 → Hol
 unfolding made
 made-holds next t es ws cs l = held-state (record { le = length es; lw = length ws; lc = length cs; state = empty; held = new-nursery es ws cs }) l
 
-rebuilt-holds : (snapshot journal t es ws cs : List ℕ) → all (λ b. ltb b 256) journal ≡ true → length cs < 2 ^ 64 → HoldsState (rebuild hash snapshot journal t es ws cs .box)
-unfolding rebuild readCall roomOf
-rebuilt-holds snapshot journal t es ws cs b l =
+-- both readings were taken
+second-taken : (a b : Answer) → bothTaken a b ≡ Taken → b ≡ Taken
+second-taken Taken b e = e
+second-taken (Refused r) b e = absurd (not-refused (sym e))
+
+rebuilt-holds : (snapshot journal t es ws cs : List ℕ) → all (λ b. ltb b 256) journal ≡ true → length cs < 2 ^ 64
+    → rebuild hash snapshot journal t es ws cs .answer ≡ Taken → HoldsState (rebuild hash snapshot journal t es ws cs .box)
+unfolding rebuild readOut roomOf
+rebuilt-holds snapshot journal t es ws cs b l e =
+    let c = deserializeCall (standard .base) snapshot t in
     let r = journal-loaded hash (roomOf es ws cs) journal b in
     let s = readJournal hash (roomOf es ws cs) journal .state in
-    held-state (record { le = length es; lw = length ws; lc = length cs; state = s; held = laid-held es ws cs s (r .well) (r .room) }) l
+    let read = read-taken hash journal es ws cs (second-taken (c .result .answer) (readCall hash journal es ws cs .result .answer) e) .1 in
+    subst (λ (x : ReadIn).
+    HoldsState (record { counters = c .result .counters; counts = c .table; nursery = x .result .nursery; entries = x .entries; waiting = x .waiting; cells = x .cells })) (sym read)
+    (held-state (record { le = length es; lw = length ws; lc = length cs; state = s; held = laid-held es ws cs s (r .well) (r .room) }) l)
 
 called-holds : (b : Box) (x : Call) → HoldsState b → typed x ≡ true → length (b .cells) < 2 ^ 64 → HoldsState (step b x .1)
 unfolding state-held
