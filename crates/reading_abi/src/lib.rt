@@ -29,7 +29,7 @@ pub extern "C" fn selvaigo_deserialize_trusted(
     }
 }
 
-// A journal, read into an empty nursery in tables of any content.
+// A journal, read into an empty nursery in a record and tables of any content. A refusal changes none of them.
 #[no_mangle]
 pub extern "C" fn selvaigo_read_journal(
     journal: &[u8],
@@ -37,13 +37,21 @@ pub extern "C" fn selvaigo_read_journal(
     entries: &mut [u64],
     waiting: &mut [u64],
     cells: &mut [u8],
-    read: &mut [u64; 2],
+    read: &mut [u64; 3],
 ) -> u8
-    ensures { λ r. ⌜ said r (now (read .exit) ∷ []) (now (nursery .exit) ∷ now (entries .exit) ∷ now (waiting .exit) ∷ now (cells .exit) ∷ []) ≡ journalSaid (now (journal .entry)) (now (entries .entry)) (now (waiting .entry)) (now (cells .entry)) ⌝ }
+    ensures { λ r. ⌜ said r (now (read .exit) ∷ []) (now (nursery .exit) ∷ now (entries .exit) ∷ now (waiting .exit) ∷ now (cells .exit) ∷ []) ≡ journalSaid (now (journal .entry)) (now (nursery .entry)) (now (entries .entry)) (now (waiting .entry)) (now (cells .entry)) ⌝ }
 {
     let x = journal_read::read_journal(journal, entries, waiting, cells);
-    *read = [x.applied as u64, x.place as u64];
-    *nursery = nursery_words(x.nursery);
-    let a = x.ended;
-    a.number()
+    let ended = x.ended;
+    let number = ended.number() as u64;
+    *read = [x.applied as u64, x.place as u64, number];
+    let a = x.answer;
+    match a {
+        Answer::Taken => {
+            let n = x.nursery;
+            *nursery = nursery_words(n);
+            0
+        }
+        Answer::Refused(q) => q.number(),
+    }
 }

@@ -1,9 +1,9 @@
-// Hash and records as C functions; include/selvaigo.h declares them. A slice passes as a pointer and a length, an array as a pointer.
+// Hash, records and the scan of a journal as C functions; include/selvaigo.h declares them. A slice passes as a pointer and a length, an array as a pointer.
 ghost use mathlib.Core.Path.{_≡_};
 ghost use mathlib.Core.List.{[], _∷_};
 ghost use Rattle.blake3.specs.Spec as blake3;
 ghost use Rattle.state_words.specs.Words.{said};
-ghost use Rattle.word_calls.specs.RecordSaid.{encodeSaid, decodeSaid};
+ghost use Rattle.word_calls.specs.RecordSaid.{encodeSaid, decodeSaid, scanSaid};
 
 // The hash of bytes.
 #[no_mangle]
@@ -65,4 +65,16 @@ pub extern "C" fn selvaigo_decode_record(
     *hash = h;
     let a = x.answer;
     a.number()
+}
+
+// The records of a journal, applied to nothing.
+#[no_mangle]
+pub extern "C" fn selvaigo_scan_journal(journal: &[u8], scan: &mut [u64; 3]) -> u8
+    ensures { λ r. ⌜ said r (now (scan .exit) ∷ []) [] ≡ scanSaid (now (journal .entry)) ⌝ }
+{
+    let x = journal_scan::scan(journal);
+    let ended = x.ended;
+    let number = ended.number() as u64;
+    *scan = [x.records as u64, x.place as u64, number];
+    0
 }

@@ -4,17 +4,14 @@
 use Prim.Native.Nat.{ℕ}
 use mathlib.Core.List.{List, [], _∷_}
 use Rattle.base.specs.Answers.{answerNumber}
-use Rattle.base.specs.declared.Answer.{Answer}
-use Rattle.base.specs.declared.Answer.the-variants.{Taken, Refused}
 use Rattle.base.specs.declared.Wrote.{Wrote}
-use Rattle.counters.specs.declared.Counters.{Counters}
 use Rattle.counters.specs.declared.Allocated.{Allocated}
 use Rattle.counters.specs.declared.Got.{Got}
 use Rattle.counters.specs.declared.Shrunk.{Shrunk}
 use Rattle.counters.specs.Maintenance.{standard}
 use Rattle.counters.specs.Calls.{Changed, newCall, allocCall, getCall, batchCall, shrinkCall}
 use Rattle.snapshot.specs.Calls.{serializeCall, deserializeCall, lengthCall}
-use Rattle.state_words.specs.Words.{countersOf, countersWords, decisions, Said, said, oneWord, writtenSaid}
+use Rattle.state_words.specs.Words.{countersOf, countersWords, decisions, Said, said, oneWord, writtenSaid, wordsAfter}
 
 -- ---- what the calls under them give, in words
 
@@ -38,14 +35,9 @@ shrunkSaid x = said (answerNumber (x .answer)) (decisions (x .alive) (x .small) 
 unfoldable pub lengthFound : Wrote → Said
 lengthFound x = said (answerNumber (x .answer)) (oneWord (x .len)) []
 
--- the words of a record after a call that makes one: beside a refusal those that were there
-abbrev pub wordsAfter : List ℕ → Answer → Counters → List ℕ
-wordsAfter w Taken c = countersWords c
-wordsAfter w (Refused r) c = w
-
 -- a state that was read in: its record's words are written where it was taken, and its table
 unfoldable pub readSaid : List ℕ → Changed → Said
-readSaid w x = said (answerNumber (x .result .answer)) [] (wordsAfter w (x .result .answer) (x .result .counters) ∷ x .table ∷ [])
+readSaid w x = said (answerNumber (x .result .answer)) [] (wordsAfter w (x .result .answer) (countersWords (x .result .counters)) ∷ x .table ∷ [])
 
 -- ---- the calls, where w is the record's words and t the table of counts
 

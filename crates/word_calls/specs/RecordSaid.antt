@@ -7,8 +7,9 @@ use Rattle.blake3.specs.Spec.{hash}
 use Rattle.format.specs.declared.RecordStats.{RecordStats}
 use Rattle.format.specs.declared.Decoded.{Decoded}
 use Rattle.format.specs.Calls.{EncodedOut, encodeCall, decodeCall}
-use Rattle.journal.specs.Journal.{ReadIn, readCall}
-use Rattle.state_words.specs.Words.{nurseryWords, Said, said}
+use Rattle.journal.specs.declared.JournalScan.{JournalScan}
+use Rattle.journal.specs.Journal.{scan, ReadIn, readCall}
+use Rattle.state_words.specs.Words.{nurseryWords, Said, said, wordsAfter}
 use Rattle.word_calls.specs.NurserySaid.{flag}
 
 -- the figures of a record
@@ -31,12 +32,21 @@ decodedSaid d = said (answerNumber (d .answer)) ((d .id ∷ d .«items_at» ∷ 
 unfoldable pub decodeSaid : List ℕ → Said
 decodeSaid bs = decodedSaid (decodeCall hash bs)
 
--- how reading a journal ended, the records applied and the place after them; the nursery's words, and its tables
-unfoldable pub readInSaid : ReadIn → Said
-readInSaid x =
-    said (answerNumber (x .result .ended)) ((x .result .applied ∷ x .result .place ∷ []) ∷ [])
-    (nurseryWords (x .result .nursery) ∷ x .entries ∷ x .waiting ∷ x .cells ∷ [])
+-- how many records of a journal are taken, the place after them, and the number of what ended them
+unfoldable pub scannedSaid : JournalScan → Said
+scannedSaid x = said 0 ((x .records ∷ x .place ∷ answerNumber (x .ended) ∷ []) ∷ []) []
 
--- a journal, read into an empty nursery, whatever was in the record and the tables
-unfoldable pub journalSaid : List ℕ → List ℕ → List ℕ → List ℕ → Said
-journalSaid bs es ws cs = readInSaid (readCall hash bs es ws cs)
+-- the records of a journal, applied to nothing
+unfoldable pub scanSaid : List ℕ → Said
+scanSaid bs = scannedSaid (scan hash bs)
+
+-- the records that a reading applied, the place after them and the number of what ended it; the nursery's words where it was taken, and its tables
+unfoldable pub readInSaid : List ℕ → ReadIn → Said
+readInSaid v x =
+    let j = x .result in
+    said (answerNumber (j .answer)) ((j .applied ∷ j .place ∷ answerNumber (j .ended) ∷ []) ∷ [])
+    (wordsAfter v (j .answer) (nurseryWords (j .nursery)) ∷ x .entries ∷ x .waiting ∷ x .cells ∷ [])
+
+-- a journal, read into an empty nursery, whatever the words v of its record and the tables were
+unfoldable pub journalSaid : List ℕ → List ℕ → List ℕ → List ℕ → List ℕ → Said
+journalSaid bs v es ws cs = readInSaid v (readCall hash bs es ws cs)

@@ -3,14 +3,17 @@
 use Prim.Native.Nat.{ℕ}
 use mathlib.Core.Path.{_≡_, ap}
 use mathlib.Core.List.{List, [], _∷_}
-use Rattle.base.specs.Answers.{answerNumber}
+use Rattle.base.specs.Answers.{answerNumber, numberOf}
+use Rattle.base.specs.declared.Refusal.{Refusal}
+use Rattle.base.specs.declared.Answer.the-variants.{Taken, Refused}
 use Rattle.format.specs.declared.Encoded.{Encoded}
 use Rattle.format.specs.declared.Decoded.{Decoded}
 use Rattle.format.specs.Calls.{EncodedOut}
 use Rattle.journal.specs.declared.JournalRead.{JournalRead}
-use Rattle.journal.specs.Journal.{ReadIn}
+use Rattle.journal.specs.declared.JournalScan.{JournalScan}
+use Rattle.journal.specs.Journal.{ReadIn, effect}
 use Rattle.state_words.specs.Words.{nurseryWords, said}
-use Rattle.word_calls.specs.RecordSaid.{statWords, encodedSaid, decodedSaid, readInSaid}
+use Rattle.word_calls.specs.RecordSaid.{statWords, encodedSaid, decodedSaid, scannedSaid, readInSaid}
 
 pub encoded-said : {x : Encoded} {t : List ℕ} {y : EncodedOut} {r : ℕ} → record { result = x; out = t } ≡ y → r ≡ answerNumber (x .answer)
     → said r ((x .len ∷ statWords (x .stats)) ∷ []) (t ∷ []) ≡ encodedSaid y
@@ -22,8 +25,18 @@ pub decoded-said : {x y : Decoded} {r : ℕ} → x ≡ y → r ≡ answerNumber 
 unfolding decodedSaid
 decoded-said e p = rw p (ap decodedSaid e)
 
-pub read-in-said : {x : JournalRead} {es ws cs v : List ℕ} {y : ReadIn} {r : ℕ} → record { result = x; entries = es; waiting = ws; cells = cs } ≡ y
-    → r ≡ answerNumber (x .ended) → v ≡ nurseryWords (x .nursery)
-    → said r ((x .applied ∷ x .place ∷ []) ∷ []) (v ∷ es ∷ ws ∷ cs ∷ []) ≡ readInSaid y
-unfolding readInSaid
-read-in-said e p q = rw (p, q) (ap readInSaid e)
+pub scanned-said : {x y : JournalScan} {n : ℕ} → x ≡ y → n ≡ answerNumber (x .ended) → said 0 ((x .records ∷ x .place ∷ n ∷ []) ∷ []) [] ≡ scannedSaid y
+unfolding scannedSaid
+scanned-said e p = rw p (ap scannedSaid e)
+
+-- ---- a journal whose reading is taken, and one whose reading is refused
+module _ (v : List ℕ) {x : JournalRead} {es ws cs : List ℕ} {y : ReadIn} {n : ℕ} (e : effect x es ws cs ≡ y) (k : n ≡ answerNumber (x .ended)) where
+  pub read-taken : {u : List ℕ} → x .answer ≡ Taken → u ≡ nurseryWords (x .nursery)
+      → said 0 ((x .applied ∷ x .place ∷ n ∷ []) ∷ []) (u ∷ es ∷ ws ∷ cs ∷ []) ≡ readInSaid v y
+  unfolding readInSaid
+  read-taken a q = rw (k, q) (rw a at (ap (readInSaid v) e))
+
+  pub read-refused : {q : Refusal} {r : ℕ} → x .answer ≡ Refused q → r ≡ numberOf q
+      → said r ((x .applied ∷ x .place ∷ n ∷ []) ∷ []) (v ∷ es ∷ ws ∷ cs ∷ []) ≡ readInSaid v y
+  unfolding readInSaid
+  read-refused a p = rw (k, p) (rw a at (ap (readInSaid v) e))

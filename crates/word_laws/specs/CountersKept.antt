@@ -15,7 +15,7 @@ use Rattle.base.specs.Output.{put, fitting, written}
 use Rattle.base.specs.declared.Answer.{Answer}
 use Rattle.base.specs.declared.Answer.the-variants.{Taken, Refused}
 use Rattle.base.specs.declared.Refusal.{Refusal}
-use Rattle.base.specs.declared.Refusal.the-variants.{Spent, Unallocated, Repeated, OffTotal, FalseOld, TableFull, Version, TornSnapshot, BadBitmap, BadLarge, TierClash, Present, NurseryFull, TooLong, OutputFull, ShortRecord, FarLength, Mismatch, Misfit, Broken}
+use Rattle.base.specs.declared.Refusal.the-variants.{Spent, Unallocated, Repeated, OffTotal, FalseOld, TableFull, Version, TornSnapshot, BadBitmap, BadLarge, TierClash, Present, NurseryFull, TooLong, OutputFull, ShortRecord, FarLength, Mismatch, Misfit, Broken, Damaged}
 use Rattle.counters.specs.declared.Counters.{Counters}
 use Rattle.counters.specs.Counts.{State, fresh, allocate, get}
 use Rattle.counters.specs.Batch.{applyBatch}
@@ -28,9 +28,9 @@ use Rattle.snapshot.specs.Read.{readSnapshot}
 use Rattle.snapshot.specs.Calls.{serializeCall, deserializeCall, lengthCall}
 use Rattle.snapshot_laws.specs.RefusalLaws.{read-numbers}
 use Rattle.snapshot_laws.specs.CallLaws.{deserialize-taken-holds}
-use Rattle.state_words.specs.Words.{countersOf, countersWords, oneWord, writtenSaid, Unchanged, left}
+use Rattle.state_words.specs.Words.{countersOf, countersWords, oneWord, writtenSaid, wordsAfter, Unchanged, left}
 use Rattle.state_words.specs.WordLaws.{counters-words-back}
-use Rattle.word_calls.specs.CountersSaid.{wordsAfter, changedSaid, allocatedSaid, gotSaid, shrunkSaid, lengthFound, readSaid, newSaid, allocSaid, getSaid, batchSaid, shrinkSaid, lengthSaid, serializeSaid, deserializeSaid}
+use Rattle.word_calls.specs.CountersSaid.{changedSaid, allocatedSaid, gotSaid, shrunkSaid, lengthFound, readSaid, newSaid, allocSaid, getSaid, batchSaid, shrinkSaid, lengthSaid, serializeSaid, deserializeSaid}
 
 -- ---- refusals
 
@@ -120,7 +120,7 @@ unfolding holds
 words-held c t h = h
 
 -- no refusal has the number 0
-number-not-zero : (r : Refusal) → numberOf r ≡ 0 → ⊥
+pub number-not-zero : (r : Refusal) → numberOf r ≡ 0 → ⊥
 number-not-zero Spent e = omega arith
 number-not-zero Unallocated e = omega arith
 number-not-zero Repeated e = omega arith
@@ -141,6 +141,7 @@ number-not-zero FarLength e = omega arith
 number-not-zero Mismatch e = omega arith
 number-not-zero Misfit e = omega arith
 number-not-zero Broken e = omega arith
+number-not-zero Damaged e = omega arith
 
 pub new-held : (next : ℕ) (t : List ℕ) → Held (left 0 (newSaid next t)) (left 1 (newSaid next t))
 unfolding newSaid changedSaid
@@ -171,6 +172,6 @@ module _ (w t : List ℕ) where
       let x = deserializeCall (standard .base) bs t in
       go (x .result .answer) (x .result .counters) (x .table) (deserialize-taken-holds (standard .base) bs t)
     where
-      go : (a : Answer) (c : Counters) (u : List ℕ) → (a ≡ Taken → holds c u ≡ true) → answerNumber a ≡ 0 → Held (wordsAfter w a c) u
+      go : (a : Answer) (c : Counters) (u : List ℕ) → (a ≡ Taken → holds c u ≡ true) → answerNumber a ≡ 0 → Held (wordsAfter w a (countersWords c)) u
       go Taken c u h n = words-held c u (h refl)
       go (Refused r) c u h n = absurd (number-not-zero r n)

@@ -1,28 +1,35 @@
--- The promises of include/selvaigo.h for records and journals. A refused call on a record leaves zeros for its values and changes no slice. What a
--- journal's reading can end with: never 20. And what it leaves may be lent to the held forms.
+-- The promises of include/selvaigo.h for records and journals. A refused call leaves zeros for its values and changes no slice. What a journal's
+-- reading can be refused with, and end with; what a scan says of it. And what a reading that is taken leaves may be lent to the held forms.
 -- Assumes nothing.
 use Prim.Native.Nat.{ℕ}
+use native.Mathlib.Omega.{arith}
 use mathlib.Core.Path.{_≡_, refl}
-use mathlib.Core.Bool.{true, false≢true}
+use mathlib.Core.Logic.{_↔_}
+use mathlib.Core.Bool.{Bool, true, false, not, _||_, true≢false}
 use mathlib.Core.List.{List, [], _∷_}
-use lib.ListN.{length}
-use lib.Dec.{ltb}
-use Rattle.base.specs.Logic.{any, elem, zeros}
-use Rattle.base.specs.Answers.{Outcome, refused, taken, _>>=_, _>>_, refuseIf, orRefuse}
-use Rattle.base.specs.declared.Refusal.the-variants.{OutputFull, Broken}
+use lib.ListN.{length, getD}
+use lib.Dec.{ltb, eqb}
+use borrow.Author.Tests.{ne-eqb}
+use Rattle.base.specs.Logic.{pick, any, elem, zeros}
+use Rattle.base.specs.Answers.{Outcome, refused, taken, numberOf, answerNumber, _>>=_, _>>_, refuseIf, orRefuse}
+use Rattle.base.specs.declared.Answer.{Answer}
+use Rattle.base.specs.declared.Answer.the-variants.{Taken, Refused}
+use Rattle.base.specs.declared.Refusal.the-variants.{OutputFull, Broken, Damaged}
 use Rattle.blake3.specs.Spec as blake3
 use Rattle.cell_nursery.specs.Items.{deltaOf}
-use Rattle.slices.specs.ByteLaws.{U8, u8-bytes}
+use Rattle.cell_nursery.specs.Layout.{roomOf, holds}
 use Rattle.cell_nursery.specs.Calls.{lengthWidth}
+use Rattle.slices.specs.ByteLaws.{U8, u8-bytes}
 use Rattle.format.specs.Record.{Encoding, Decoding, encode, decode}
 use Rattle.format.specs.Calls.{noStats, encodedOut, encodeCall, decodedOf, decodeCall}
-use Rattle.journal.specs.Journal.{readCall}
+use Rattle.journal.specs.Journal.{scan, damages, damaged, readJournal, ReadIn, notRead, readOut, readCall}
 use Rattle.journal_laws.specs.LoadLaws.{read-holds}
 use Rattle.journal_laws.specs.EndLaws.{endNumbers, read-ends}
-use Rattle.state_words.specs.Words.{Unchanged, left}
+use Rattle.state_words.specs.Words.{nurseryWords, wordsAfter, Unchanged, left}
 use Rattle.word_calls.specs.NurserySaid.{flag}
+use Rattle.word_calls.specs.RecordSaid.{encodedSaid, encodeSaid, decodedSaid, decodeSaid, scannedSaid, scanSaid, readInSaid, journalSaid}
+use Rattle.word_laws.specs.CountersKept.{number-not-zero}
 use Rattle.word_laws.specs.NurseryKept.{Held, words-held}
-use Rattle.word_calls.specs.RecordSaid.{encodedSaid, encodeSaid, decodedSaid, decodeSaid, readInSaid, journalSaid}
 
 -- ---- records
 pub encode-unchanged : (id wide inserts removes : ℕ) (items out : List ℕ) → Unchanged (zeros 6 ∷ []) (out ∷ []) (encodeSaid id wide inserts removes items out)
@@ -43,19 +50,58 @@ decode-unchanged bs = go (decode blake3.hash bs)
     go (refused q) n = (refl, refl)
     go (taken d) n = absurd (n refl)
 
--- ---- over words: what a reading can end with
-pub journal-ends : (bs es ws cs : List ℕ) → U8 bs → elem (journalSaid bs es ws cs .answer) endNumbers ≡ true
+-- ---- journals
+-- a reading is taken or refused with 21, and ends with one of these numbers; a scan is always taken
+pub journal-answers : (bs v es ws cs : List ℕ) → U8 bs → elem (journalSaid bs v es ws cs .answer) (0 ∷ 21 ∷ []) ≡ true
 unfolding journalSaid readInSaid
-journal-ends bs es ws cs u = read-ends blake3.hash bs es ws cs (u8-bytes bs u) .numbers
+journal-answers bs v es ws cs u = read-ends blake3.hash bs es ws cs (u8-bytes bs u) .answers
 
--- so it never shares its number with a call that is refused whole
-pub journal-never-broken : (bs es ws cs : List ℕ) → U8 bs → journalSaid bs es ws cs .answer ≡ 20 → ⊥
-unfolding any
-journal-never-broken bs es ws cs u e = false≢true (rw e at (journal-ends bs es ws cs u))
+pub journal-ends : (bs v es ws cs : List ℕ) → U8 bs → elem (getD (getD (journalSaid bs v es ws cs .values) 0 []) 2 0) endNumbers ≡ true
+unfolding journalSaid readInSaid readCall notRead readOut any
+journal-ends bs v es ws cs u = go (damaged blake3.hash bs) refl
+  where
+    go : (d : Bool) → damaged blake3.hash bs ≡ d → elem (answerNumber (readCall blake3.hash bs es ws cs .result .ended)) endNumbers ≡ true
+    go true e = rw e
+    go false e = read-ends blake3.hash bs es ws cs (u8-bytes bs u) .ends (rw e) .numbers
+
+pub journal-unchanged : (bs v es ws cs : List ℕ) → Unchanged (zeros 3 ∷ []) (v ∷ es ∷ ws ∷ cs ∷ []) (journalSaid bs v es ws cs)
+unfolding journalSaid readInSaid readCall notRead readOut
+journal-unchanged bs v es ws cs = go (damaged blake3.hash bs)
+  where
+    go : (d : Bool)
+        → Unchanged (zeros 3 ∷ []) (v ∷ es ∷ ws ∷ cs ∷ []) (readInSaid v (pick d (notRead Damaged es ws cs) (readOut es ws cs (readJournal blake3.hash (roomOf es ws cs) bs))))
+    go true n = (refl, refl)
+    go false n = absurd (n refl)
+
+-- the scan says whether the reading is refused: it is where what ended it is neither the journal's end nor a record that is cut
+pub scan-taken : (bs : List ℕ) → scanSaid bs .answer ≡ 0
+unfolding scanSaid scannedSaid
+scan-taken bs = refl
+
+pub scan-says : (bs v es ws cs : List ℕ) → (journalSaid bs v es ws cs .answer ≡ 21) ↔ (elem (getD (getD (scanSaid bs .values) 0 []) 2 0) (0 ∷ 16 ∷ []) ≡ false)
+unfolding journalSaid readInSaid readCall notRead readOut scanSaid scannedSaid damaged damages any
+scan-says bs v es ws cs = go (scan blake3.hash bs .ended)
+  where
+    cut : (b z : Bool) → z ≡ false
+        → (answerNumber (pick (not b) (notRead Damaged es ws cs) (readOut es ws cs (readJournal blake3.hash (roomOf es ws cs) bs)) .result .answer) ≡ 21) ↔ ((z || (b || false)) ≡ false)
+    cut b true e = absurd (true≢false e)
+    cut true false e = (λ f. absurd (omega arith), λ f. absurd (true≢false f))
+    cut false false e = (λ f. refl, λ f. refl)
+
+    go : (a : Answer)
+        → (answerNumber (pick (damages a) (notRead Damaged es ws cs) (readOut es ws cs (readJournal blake3.hash (roomOf es ws cs) bs)) .result .answer) ≡ 21) ↔ (elem (answerNumber a) (0 ∷ 16 ∷ []) ≡ false)
+    go Taken = (λ e. absurd (omega arith), λ e. absurd (true≢false e))
+    go (Refused q) = cut (eqb (numberOf q) 16) (eqb (numberOf q) 0) (ne-eqb (numberOf q) 0 (number-not-zero q))
 
 -- ---- what is left may be lent to the held forms, whatever ended the reading
-pub journal-held : (bs es ws cs : List ℕ) → U8 bs → let s = journalSaid bs es ws cs in Held (left 0 s) (left 1 s) (left 2 s) (left 3 s)
+pub journal-held : (bs v es ws cs : List ℕ) → U8 bs → let s = journalSaid bs v es ws cs in s .answer ≡ 0 → Held (left 0 s) (left 1 s) (left 2 s) (left 3 s)
 unfolding journalSaid readInSaid
-journal-held bs es ws cs u =
-    let c = readCall blake3.hash bs es ws cs in
-    words-held (c .result .nursery) (c .entries) (c .waiting) (c .cells) (read-holds blake3.hash bs es ws cs (u8-bytes bs u))
+journal-held bs v es ws cs u = go (readCall blake3.hash bs es ws cs .result .answer) (read-holds blake3.hash bs es ws cs (u8-bytes bs u))
+  where
+    c : ReadIn
+    c = readCall blake3.hash bs es ws cs
+
+    go : (a : Answer) → (a ≡ Taken → holds (c .result .nursery) (c .entries) (c .waiting) (c .cells) ≡ true) → answerNumber a ≡ 0
+        → Held (wordsAfter v a (nurseryWords (c .result .nursery))) (c .entries) (c .waiting) (c .cells)
+    go Taken h e = words-held (c .result .nursery) (c .entries) (c .waiting) (c .cells) (h refl)
+    go (Refused q) h e = absurd (number-not-zero q e)
