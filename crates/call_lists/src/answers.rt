@@ -105,6 +105,12 @@ pub fn put_two(out: &mut [u8], number: u8, words: &[u64; 2]) -> usize
     put(out, number, words)
 }
 
+pub fn put_three(out: &mut [u8], number: u8, words: &[u64; 3]) -> usize
+    ensures { λ r. ⌜ upTo r (now (out .exit)) ≡ answerOf number (now (words .entry)) (now (out .entry)) ⌝ }
+{
+    put(out, number, words)
+}
+
 pub fn put_six(out: &mut [u8], number: u8, words: &[u64; 6]) -> usize
     ensures { λ r. ⌜ upTo r (now (out .exit)) ≡ answerOf number (now (words .entry)) (now (out .entry)) ⌝ }
 {

@@ -5,6 +5,7 @@ use call_lists::answers::put;
 use call_lists::answers::put_byte;
 use call_lists::answers::put_bytes;
 use call_lists::answers::put_one;
+use call_lists::answers::put_three;
 use call_lists::answers::put_two;
 use call_lists::answers::word;
 use drain_abi::selvaigo_drain_promotable;
@@ -14,6 +15,7 @@ use listing_abi::selvaigo_snapshot_entries;
 use nursery_abi::selvaigo_apply_commit;
 use nursery_abi::selvaigo_nursery_new;
 use reading_abi::selvaigo_read_journal;
+use record_abi::selvaigo_scan_journal;
 
 // The call has the numbers of inserts and removes, and the items.
 fn apply_commit(
@@ -51,9 +53,15 @@ fn read_journal(
     call: &[u8],
     out: &mut [u8],
 ) -> usize {
-    let mut read = [7u64; 2];
+    let mut read = [7u64; 3];
     let number = selvaigo_read_journal(call, nursery, entries, waiting, cells, &mut read);
-    put_two(out, number, &read)
+    put_three(out, number, &read)
+}
+
+fn scan_journal(call: &[u8], out: &mut [u8]) -> usize {
+    let mut scan = [7u64; 3];
+    let number = selvaigo_scan_journal(call, &mut scan);
+    put_three(out, number, &scan)
 }
 
 fn drain(
@@ -172,6 +180,7 @@ fn read(
         20 => get_data(nursery, entries, cells, call, out),
         21 => listing(nursery, entries, cells, out),
         22 => totals(nursery, out),
+        25 => scan_journal(call, out),
         _ => NONE,
     }
 }

@@ -3,7 +3,7 @@
 // | kind | call | answer |
 // |---|---|---|
 // | 10 | delta: inserts, removes, items | number, 0, 0 |
-// | 11 | journal to read | number, records applied, the place after them |
+// | 11 | journal to read | number, records applied, the place after them, the number that ended it |
 // | 12 | drain: round | number, length, output |
 // | 13 | hash | number, whether found, index |
 // | 14 | hash | number, whether found, the cell |
@@ -11,6 +11,7 @@
 // | 16 | | 0, entries, cell bytes |
 // | 17 | new nursery | number |
 // | 18 | a word to write: 0 for the record, 1 for the entries, 2 for the waiting rows; its place; the word | 0 |
+// | 19 | journal to scan | 0, records taken, the place after them, the number that ended it |
 mod calls;
 
 use call_lists::answers::NONE;
@@ -95,4 +96,5 @@ fn list(name: &[u8]) {
 fn main() {
     list(b"original");
     list(b"edges");
+    list(b"journals");
 }
