@@ -8,7 +8,7 @@
  *
  * Every call but three returns an answer: 0 where it was taken, else the number of its refusal (SELVAIGO_...). Beside a refusal
  * values are zeros, and no record and no slice is changed. Output beyond an answer isn't touched. Making counters or a nursery
- * and reading a journal are never refused; a journal's answer says what ended it.
+ * and scanning a journal are never refused.
  *
  * A box is two state records and four tables, which the caller owns and lends to each call in the size and with the content that
  * the call before left. docs/LAYOUT.md has them word by word.
@@ -61,7 +61,8 @@ enum {
     SELVAIGO_FAR_LENGTH = 17,    /* a stated length at or above 2^64 - 8 */
     SELVAIGO_MISMATCH = 18,      /* the hash of a record is wrong */
     SELVAIGO_MISFIT = 19,        /* a stated length under 16, or items that run past it */
-    SELVAIGO_BROKEN = 20         /* what is lent isn't in the layout */
+    SELVAIGO_BROKEN = 20,        /* what is lent isn't in the layout */
+    SELVAIGO_DAMAGED = 21        /* a record of a journal is refused with another number than 16 */
 };
 
 /* ---- Counters ---- */
@@ -171,12 +172,18 @@ uint8_t selvaigo_encode_record(uint64_t id, uint8_t wide, uint64_t inserts, uint
  * metadata bytes, cell bytes, inserts, removes. */
 uint8_t selvaigo_decode_record(const uint8_t *bytes, size_t bytes_len, uint64_t figures[8], uint8_t hash[32]);
 
+/* The records of a journal, one after another, whatever their deltas are; none is applied. Writes scan: how many are taken, the place after the
+ * last of them, and the number that the record there is refused with: 0 at the journal's end, 16 where it is cut. Any other number is
+ * damage: reading the journal is refused. Always taken. */
+uint8_t selvaigo_scan_journal(const uint8_t *journal, size_t journal_len, uint64_t scan[3]);
+
 /* A journal, read into an empty nursery: writes nursery, entries, waiting and cells, whatever was in them, and read: records
- * applied, and the place after the last of them. The answer is 0 at the journal's end, else the number that the first record that wasn't
- * applied is refused with (16 to 19), or its delta (12 or 13), and no other; what was applied stays. */
+ * applied, the place after the last of them, and the number that ended it: 0 at the journal's end, 16 where the record there is cut, 12 or
+ * 13 where its delta is refused, and no other; what was applied stays. The only refusal is SELVAIGO_DAMAGED, where the scan above finds
+ * damage, also behind a delta that would be refused; it comes before any delta is applied. */
 uint8_t selvaigo_read_journal(const uint8_t *journal, size_t journal_len, uint64_t nursery[SELVAIGO_NURSERY], uint64_t *entries,
                               size_t entries_len, uint64_t *waiting, size_t waiting_len, uint8_t *cells, size_t cells_len,
-                              uint64_t read[2]);
+                              uint64_t read[3]);
 
 #ifdef __cplusplus
 }

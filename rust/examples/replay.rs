@@ -1,7 +1,9 @@
 //! A box's life: indices and counts, a young cell, its promotion, and the box read in again.
-use selvaigo::{CounterTransition, HashBytes, NextIdx, NodeBox, NurseryDelta, NurseryEntryRecord, Refusal, Room, hash};
+use std::error::Error;
 
-fn main() -> Result<(), Refusal> {
+use selvaigo::{CounterTransition, HashBytes, NextIdx, NodeBox, NurseryDelta, NurseryEntryRecord, Room, hash};
+
+fn main() -> Result<(), Box<dyn Error>> {
     let room = Room { counts: 1_024, entries: 256, cell_bytes: 16_384 };
     let (mut node, mut journal) = (NodeBox::new(NextIdx::new(0), room), Vec::new());
     let idx = node.counters.alloc_idx()?;

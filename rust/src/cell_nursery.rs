@@ -2,7 +2,7 @@
 use std::borrow::Cow;
 use std::fmt;
 
-use crate::{Idx, Refusal, raw, size, sys, taken, words};
+use crate::{Idx, JournalEnd, Refusal, raw, size, sys, taken, words};
 
 /// How many rounds an entry waits before it is due for promotion.
 pub const PROMOTION_DELAY_ROUNDS: u32 = 100;
@@ -165,28 +165,6 @@ impl<'a> PromotedCell<'a> {
     }
 }
 
-/// Where the reading of a journal ended. Such an end is no refusal of the reading: what was applied stays.
-#[derive(Debug, Clone, Copy, PartialEq, Eq)]
-pub struct JournalEnd {
-    /// How many records were applied.
-    pub applied: u64,
-    /// The place after the last of them.
-    pub place: usize,
-    /// What the record there, or its delta, is refused with; none at the journal's end.
-    pub refusal: Option<Refusal>,
-}
-
-/// The nursery that a journal makes out of an empty one with room for so many entries and cell bytes, and where its reading ended.
-///
-/// # Panics
-///
-/// Where the room is more than a slice can have.
-pub fn read_journal(journal: &[u8], entries: usize, cell_bytes: usize) -> (CellNursery, JournalEnd) {
-    let mut n = CellNursery::zeros(entries, cell_bytes);
-    let end = raw::read_journal(journal, &mut n.nursery, &mut n.entries, &mut n.waiting, &mut n.cells);
-    (n, end)
-}
-
 /// The record and the tables of a nursery, in the layout of docs/LAYOUT.md.
 #[derive(Debug, Clone, PartialEq, Eq)]
 pub struct NurseryParts {
@@ -231,6 +209,13 @@ impl CellNursery {
         let mut n = Self::zeros(entries, cell_bytes);
         raw::nursery_new(&mut n.nursery, &mut n.entries, &mut n.waiting, &mut n.cells);
         n
+    }
+
+    // The nursery that a journal makes out of an empty one.
+    pub(crate) fn read(journal: &[u8], entries: usize, cell_bytes: usize) -> Result<(Self, JournalEnd), Refusal> {
+        let mut n = Self::zeros(entries, cell_bytes);
+        let end = raw::read_journal(journal, &mut n.nursery, &mut n.entries, &mut n.waiting, &mut n.cells)?;
+        Ok((n, end))
     }
 
     /// The nursery of a record and tables, where these hold a state.

@@ -15,7 +15,7 @@
 //!
 //! let again = NodeBox::restore(&node.counters.serialize(), &[], room)?;
 //! assert_eq!(again.node_box.counters.get(idx)?, RefCount::new(3));
-//! # Ok::<(), selvaigo::Refusal>(())
+//! # Ok::<(), Box<dyn std::error::Error>>(())
 //! ```
 //!
 //! The library, libselvaigo.a, is linked from the folder in the environment variable `SELVAIGO_LIB`, or else from `target/staticlib` beside this crate's
@@ -28,21 +28,22 @@
 mod cell_nursery;
 mod counters;
 mod format;
+mod journal;
 mod node_box;
 pub mod raw;
 mod refusal;
 pub mod sys;
 
 pub use cell_nursery::{
-    CellNursery, DeltaItems, HashBytes, JournalEnd, NurseryDelta, NurseryEntryRecord, NurseryParts, PROMOTION_DELAY_ROUNDS,
-    PromotedCell, read_journal,
+    CellNursery, DeltaItems, HashBytes, NurseryDelta, NurseryEntryRecord, NurseryParts, PROMOTION_DELAY_ROUNDS, PromotedCell,
 };
 pub use counters::{
     CounterBatch, CounterMaintenance, CounterTransition, Counters, Idx, NextIdx, RefCount, Shrunk, adjust_shrink_threshold,
     should_shrink,
 };
 pub use format::{DecodedRecord, EncodedRecord, HASH_LEN, RecordStats, decode_record, encode_items, encode_record, hash};
-pub use node_box::{NodeBox, Restored, Room};
+pub use journal::{DamagedRecord, JournalEnd, JournalScan, read_journal, scan_journal};
+pub use node_box::{NodeBox, RestoreError, Restored, Room};
 pub use refusal::Refusal;
 
 // The length of a table of so many rows. Tables are asked for when a box is made; more than a slice can be is the caller's mistake, as it is for a `Vec`.
@@ -55,7 +56,7 @@ fn size(number: u64) -> usize {
     usize::try_from(number).expect("a length in memory")
 }
 
-// The answer where nothing is left to refuse: of a call that makes counters or a nursery, or of a held call over tables that the port wrote.
+// The answer where nothing is left to refuse: of a call that makes counters or a nursery or scans a journal, or of a held call over tables that the port wrote.
 fn taken(answer: u8) {
     if let Err(refusal) = Refusal::of(answer) {
         panic!("the port refused what it always takes: {refusal}");

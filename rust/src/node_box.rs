@@ -1,6 +1,9 @@
 //! A box: counters and a nursery.
+use std::error::Error;
+use std::fmt;
+
 use crate::format::encoded;
-use crate::{CellNursery, Counters, JournalEnd, NextIdx, NurseryDelta, Refusal, read_journal};
+use crate::{CellNursery, Counters, DamagedRecord, JournalEnd, NextIdx, NurseryDelta, Refusal, read_journal};
 
 /// How much a box's tables have room for. It takes 16 bytes a count and 104 an entry, beside the cells.
 #[derive(Debug, Clone, Copy, PartialEq, Eq)]
@@ -31,6 +34,56 @@ pub struct Restored {
     pub journal: JournalEnd,
 }
 
+/// Why a box couldn't be read in.
+#[derive(Debug, Clone, Copy, PartialEq, Eq)]
+pub enum RestoreError {
+    /// What its snapshot is refused with.
+    Snapshot(Refusal),
+    /// The record for which its journal is refused.
+    Journal(DamagedRecord),
+}
+
+impl RestoreError {
+    /// The number that the reading of the snapshot or of the journal is refused with.
+    pub const fn number(&self) -> u8 {
+        match self {
+            Self::Snapshot(refusal) => refusal.number(),
+            Self::Journal(damaged) => damaged.number(),
+        }
+    }
+}
+
+impl From<Refusal> for RestoreError {
+    fn from(refusal: Refusal) -> Self {
+        Self::Snapshot(refusal)
+    }
+}
+
+impl From<DamagedRecord> for RestoreError {
+    fn from(damaged: DamagedRecord) -> Self {
+        Self::Journal(damaged)
+    }
+}
+
+// What is wrong with it is said by the source.
+impl fmt::Display for RestoreError {
+    fn fmt(&self, f: &mut fmt::Formatter<'_>) -> fmt::Result {
+        match self {
+            Self::Snapshot(_) => write!(f, "snapshot refused with {}", self.number()),
+            Self::Journal(damaged) => write!(f, "journal refused with {} at byte {}", self.number(), damaged.place),
+        }
+    }
+}
+
+impl Error for RestoreError {
+    fn source(&self) -> Option<&(dyn Error + 'static)> {
+        match self {
+            Self::Snapshot(refusal) => Some(refusal),
+            Self::Journal(damaged) => Some(damaged),
+        }
+    }
+}
+
 impl NodeBox {
     /// A fresh box: the next index as handed over, the rest empty.
     ///
@@ -41,14 +94,15 @@ impl NodeBox {
         Self { counters: Counters::new(next_idx, room.counts), nursery: CellNursery::new(room.entries, room.cell_bytes) }
     }
 
-    /// A new box with the counters of a snapshot and the nursery of a journal. A snapshot may be refused; a journal is read as far as its records are taken.
+    /// A new box with the counters of a snapshot and the nursery of a journal. A snapshot may be refused, and a journal with a damaged record; else the
+    /// journal is read up to its end, the first record that is cut, or the first delta that is refused: [`Restored::journal`] says which.
     ///
     /// # Panics
     ///
     /// Where the room is more than slices can have.
-    pub fn restore(snapshot: &[u8], journal: &[u8], room: Room) -> Result<Restored, Refusal> {
+    pub fn restore(snapshot: &[u8], journal: &[u8], room: Room) -> Result<Restored, RestoreError> {
         let counters = Counters::deserialize_trusted(snapshot, room.counts)?;
-        let (nursery, journal) = read_journal(journal, room.entries, room.cell_bytes);
+        let (nursery, journal) = read_journal(journal, room.entries, room.cell_bytes)?;
         Ok(Restored { node_box: Self { counters, nursery }, journal })
     }
 

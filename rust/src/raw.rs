@@ -2,6 +2,8 @@
 //! the layout of docs/LAYOUT.md is refused with [`Refusal::Broken`]. The check is a pass over what is lent, and a look-up for each waiting row.
 use std::ops::Range;
 
+// The first pass of a reading by itself, which is lent no table.
+pub use crate::journal::scan_journal;
 use crate::{DeltaItems, HashBytes, Idx, JournalEnd, NextIdx, RefCount, Refusal, Shrunk, size, sys, taken};
 
 // SAFETY, of every call below: pointers and lengths are those of slices and arrays that are borrowed for the call, and what is borrowed to be
@@ -181,17 +183,18 @@ pub fn snapshot_entries(nursery: &[u64; sys::NURSERY], entries: &[u64], cells: &
     Ok(size(len[0]))
 }
 
-/// A journal, read into an empty nursery in a record and tables of any content. [`Refusal::Broken`] never ends it.
+/// A journal, read into an empty nursery in a record and tables of any content. Only [`Refusal::Damaged`] refuses it, and then these are as they
+/// were; [`scan_journal`] says where the damage is.
 pub fn read_journal(
     journal: &[u8],
     nursery: &mut [u64; sys::NURSERY],
     entries: &mut [u64],
     waiting: &mut [u64],
     cells: &mut [u8],
-) -> JournalEnd {
-    let mut read = [0; 2];
+) -> Result<JournalEnd, Refusal> {
+    let mut read = [0; 3];
     // SAFETY: slices and arrays, see above.
-    let answer = unsafe {
+    Refusal::of(unsafe {
         sys::selvaigo_read_journal(
             journal.as_ptr(),
             journal.len(),
@@ -204,6 +207,6 @@ pub fn read_journal(
             cells.len(),
             &mut read,
         )
-    };
-    JournalEnd { applied: read[0], place: size(read[1]), refusal: Refusal::of(answer).err() }
+    })?;
+    Ok(JournalEnd { applied: read[0], place: size(read[1]), refusal: Refusal::ended(read[2]) })
 }

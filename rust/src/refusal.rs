@@ -13,9 +13,9 @@ macro_rules! refusals {
 
         impl Refusal {
             /// All of them, by number.
-            pub const ALL: [Refusal; 20] = [$(Refusal::$name),*];
+            pub const ALL: [Refusal; 21] = [$(Refusal::$name),*];
 
-            /// The refusal of that number; none has 0, which is no refusal, or a number above 20.
+            /// The refusal of that number; none has 0, which is no refusal, or a number above 21.
             pub const fn from_number(number: u8) -> Option<Refusal> {
                 match number {
                     $($number => Some(Refusal::$name),)*
@@ -74,6 +74,8 @@ refusals! {
     Misfit = 19, "misfit";
     /// What is lent isn't in the layout of docs/LAYOUT.md.
     Broken = 20, "broken";
+    /// A record of a journal is refused with another number than 16.
+    Damaged = 21, "damaged";
 }
 
 impl Refusal {
@@ -82,12 +84,17 @@ impl Refusal {
         self as u8
     }
 
-    // What an answer means. The port gives no number above 20: another library was linked.
+    // What an answer means. The port gives no number above 21: another library was linked.
     pub(crate) fn of(answer: u8) -> Result<(), Refusal> {
         match answer {
             0 => Ok(()),
             _ => Err(Refusal::from_number(answer).unwrap_or_else(|| panic!("{answer} is no answer of the port's"))),
         }
+    }
+
+    // What ended a journal, which is given as a word beside the answer.
+    pub(crate) fn ended(word: u64) -> Option<Refusal> {
+        Refusal::of(word.try_into().expect("the number of an answer")).err()
     }
 }
 

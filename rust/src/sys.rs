@@ -240,6 +240,8 @@ unsafe extern "C" {
     ) -> u8;
     /// The record that bytes start with.
     pub fn selvaigo_decode_record(bytes: *const u8, bytes_len: usize, figures: *mut [u64; 8], hash: *mut [u8; 32]) -> u8;
+    /// The records of a journal, applied to nothing.
+    pub fn selvaigo_scan_journal(journal: *const u8, journal_len: usize, scan: *mut [u64; 3]) -> u8;
     /// A journal, read into an empty nursery in tables of any content.
     pub fn selvaigo_read_journal(
         journal: *const u8,
@@ -251,6 +253,6 @@ unsafe extern "C" {
         waiting_len: usize,
         cells: *mut u8,
         cells_len: usize,
-        read: *mut [u64; 2],
+        read: *mut [u64; 3],
     ) -> u8;
 }

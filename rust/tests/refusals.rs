@@ -2,9 +2,12 @@
 use std::borrow::Cow;
 
 use selvaigo::{
-    CellNursery, CounterTransition, Counters, DeltaItems, HashBytes, Idx, NextIdx, NurseryDelta, NurseryEntryRecord,
-    NurseryParts, RefCount, Refusal, decode_record, encode_items, encode_record, hash, raw, sys,
+    CellNursery, CounterTransition, Counters, DeltaItems, HashBytes, Idx, NextIdx, NodeBox, NurseryDelta, NurseryEntryRecord,
+    NurseryParts, RefCount, Refusal, RestoreError, Room, decode_record, encode_items, encode_record, hash, raw, read_journal,
+    sys,
 };
+
+const ROOM: Room = Room { counts: 1, entries: 1, cell_bytes: 1 };
 
 fn change(idx: u64, old_raw: u64, new_raw: u64) -> CounterTransition {
     CounterTransition { idx: Idx::new(idx), old_raw, new_raw }
@@ -63,7 +66,7 @@ fn numbers_and_words() {
         assert_eq!(Refusal::from_number(refusal.number()), Some(refusal));
         assert_eq!(refusal.to_string(), refusal.word());
     }
-    assert_eq!((Refusal::from_number(0), Refusal::from_number(21)), (None, None));
+    assert_eq!((Refusal::from_number(0), Refusal::from_number(22)), (None, None));
     assert_eq!((Refusal::OffTotal.number(), Refusal::OffTotal.to_string().as_str()), (4, "off total"));
 }
 
@@ -122,6 +125,25 @@ fn records_sixteen_to_nineteen() {
     assert_eq!(number(&wrong), 18);
     assert_eq!(number(&record(15, &[0; 15])), 19);
     assert_eq!(number(&record(16, &[0, 0, 0, 0, 0, 0, 0, 0, 1, 0, 0, 0, 0, 0, 0, 0])), 19);
+}
+
+#[test]
+fn journals_twenty_one() {
+    // A hash that is wrong, a length that is too far, and items that run past theirs, each behind a record that is taken.
+    let mut wrong = record(16, &[0; 16]);
+    wrong[0] ^= 1;
+    let bad = [(wrong, 18), (record(u64::MAX - 7, &[]), 17), (record(15, &[0; 15]), 19)];
+    for (bad, number) in bad {
+        let first = encode_record(0, &insert(1, vec![1])).unwrap();
+        let journal = [first.bytes(), &bad].concat();
+        let damaged = read_journal(&journal, 1, 1).unwrap_err();
+        assert_eq!((damaged.number(), damaged.refusal.number()), (21, number));
+        assert_eq!((damaged.records, damaged.place), (1, first.bytes().len()));
+        let restored = NodeBox::restore(&counters(1).serialize(), &journal, ROOM).unwrap_err();
+        assert_eq!((restored, restored.number()), (RestoreError::Journal(damaged), 21));
+    }
+    let restored = NodeBox::restore(&[], &[0; 40], ROOM).unwrap_err();
+    assert_eq!((restored, restored.number()), (RestoreError::Snapshot(Refusal::TornSnapshot), 8));
 }
 
 #[test]
@@ -192,7 +214,7 @@ fn made_and_read_in_over_anything() {
     assert!(CellNursery::from_parts(p).unwrap().is_empty());
     let mut p = other;
     let journal = [encode_record(0, &insert(1, vec![1])).unwrap().bytes(), &[0; 39]].concat();
-    let end = raw::read_journal(&journal, &mut p.nursery, &mut p.entries, &mut p.waiting, &mut p.cells);
+    let end = raw::read_journal(&journal, &mut p.nursery, &mut p.entries, &mut p.waiting, &mut p.cells).unwrap();
     assert_eq!((end.applied, end.refusal.map(Refusal::number)), (1, Some(16)));
     assert_eq!(CellNursery::from_parts(p).unwrap().len(), 1);
 }
@@ -208,6 +230,27 @@ fn values_beside_a_refusal_are_zeros() {
     // SAFETY: a slice and arrays.
     let answer = unsafe { sys::selvaigo_decode_record([0; 39].as_ptr(), 39, &mut figures, &mut hash) };
     assert_eq!((answer, figures, hash), (16, [0; 8], [0; 32]));
+    // A record that would be taken, and a damaged one.
+    let journal = [record(16, &[0; 16]), record(15, &[0; 15])].concat();
+    let (mut nursery, mut read) = ([9; 3], [9; 3]);
+    let (mut entries, mut waiting, mut cells) = ([9; 8], [9; 5], [9; 1]);
+    // SAFETY: slices and arrays.
+    let answer = unsafe {
+        sys::selvaigo_read_journal(
+            journal.as_ptr(),
+            journal.len(),
+            &mut nursery,
+            entries.as_mut_ptr(),
+            entries.len(),
+            waiting.as_mut_ptr(),
+            waiting.len(),
+            cells.as_mut_ptr(),
+            cells.len(),
+            &mut read,
+        )
+    };
+    assert_eq!((answer, read), (21, [0; 3]));
+    assert_eq!((nursery, entries, waiting, cells), ([9; 3], [9; 8], [9; 5], [9; 1]));
 }
 
 #[test]

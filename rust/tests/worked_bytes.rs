@@ -225,7 +225,7 @@ fn a_box_is_read_in_again() {
     assert_eq!(whole.node_box.nursery.snapshot_entries(), node.nursery.snapshot_entries());
     assert_eq!(whole.node_box.counters.serialize(), node.counters.serialize());
 
-    let (cut, end) = read_journal(&journal[..journal.len() - 1], room.entries, room.cell_bytes);
+    let (cut, end) = read_journal(&journal[..journal.len() - 1], room.entries, room.cell_bytes).unwrap();
     assert_eq!((end.applied, end.place, end.refusal), (1, first, Some(Refusal::ShortRecord)));
     assert_eq!(cut.len(), 2);
 }

@@ -1,0 +1,84 @@
+//! Journals: records end to end.
+use std::error::Error;
+use std::fmt;
+
+use crate::{CellNursery, Refusal, size, sys, taken};
+
+/// How far the records of a journal are taken one after another, whatever their deltas are.
+#[derive(Debug, Clone, Copy, PartialEq, Eq)]
+pub struct JournalScan {
+    /// How many records are taken.
+    pub records: u64,
+    /// The place after the last of them.
+    pub place: usize,
+    /// What the record there is refused with; none at the journal's end. With [`Refusal::ShortRecord`] it is cut.
+    pub refusal: Option<Refusal>,
+}
+
+impl JournalScan {
+    /// The damaged record, if one was found. Reading the journal is then refused.
+    pub fn damaged(&self) -> Option<DamagedRecord> {
+        let refusal = self.refusal.filter(|refusal| *refusal != Refusal::ShortRecord)?;
+        Some(DamagedRecord { records: self.records, place: self.place, refusal })
+    }
+}
+
+/// The records of a journal, up to its end or the first one that is refused. None is applied.
+pub fn scan_journal(journal: &[u8]) -> JournalScan {
+    let mut scan = [0; 3];
+    // SAFETY: a slice, and an array to write.
+    taken(unsafe { sys::selvaigo_scan_journal(journal.as_ptr(), journal.len(), &mut scan) });
+    JournalScan { records: scan[0], place: size(scan[1]), refusal: Refusal::ended(scan[2]) }
+}
+
+/// A record of a journal that is refused and not cut: why the reading of the journal was refused, with [`Refusal::Damaged`].
+#[derive(Debug, Clone, Copy, PartialEq, Eq)]
+pub struct DamagedRecord {
+    /// How many records stand before it.
+    pub records: u64,
+    /// The place where it starts. The bytes before it are a journal with no damage.
+    pub place: usize,
+    /// What it is refused with by itself.
+    pub refusal: Refusal,
+}
+
+impl DamagedRecord {
+    /// The number that the reading is refused with: that of [`Refusal::Damaged`].
+    pub const fn number(&self) -> u8 {
+        Refusal::Damaged.number()
+    }
+}
+
+impl fmt::Display for DamagedRecord {
+    fn fmt(&self, f: &mut fmt::Formatter<'_>) -> fmt::Result {
+        let Self { records, place, refusal } = self;
+        let s = if *records == 1 { "" } else { "s" };
+        write!(f, "damaged record at byte {place} of the journal, behind {records} record{s}: {refusal}")
+    }
+}
+
+impl Error for DamagedRecord {}
+
+/// Where the reading of a journal ended. Such an end is no refusal of the reading: what was applied stays.
+#[derive(Debug, Clone, Copy, PartialEq, Eq)]
+pub struct JournalEnd {
+    /// How many records were applied.
+    pub applied: u64,
+    /// The place after the last of them.
+    pub place: usize,
+    /// What ended it there: [`Refusal::ShortRecord`] where the record is cut, [`Refusal::Present`] or [`Refusal::NurseryFull`] where its delta is
+    /// refused; none at the journal's end.
+    pub refusal: Option<Refusal>,
+}
+
+/// The nursery that a journal makes out of an empty one with room for so many entries and cell bytes, and where its reading ended. A damaged record,
+/// wherever it stands before the journal's end or the first cut, refuses the whole reading.
+///
+/// # Panics
+///
+/// Where the room is more than a slice can have.
+pub fn read_journal(journal: &[u8], entries: usize, cell_bytes: usize) -> Result<(CellNursery, JournalEnd), DamagedRecord> {
+    // The reading says that there is one, and a second scan which.
+    let found = |_| scan_journal(journal).damaged().expect("a damaged record, for which the reading was refused");
+    CellNursery::read(journal, entries, cell_bytes).map_err(found)
+}

@@ -1,0 +1,283 @@
+//! Journals that are whole, cut or damaged (document 02, P1): the worked ones, and every cut and every changed bit of one, beside a plain
+//! definition of the reading.
+use std::collections::BTreeMap;
+use std::error::Error;
+
+use selvaigo::{
+    CellNursery, Counters, DamagedRecord, HashBytes, Idx, JournalEnd, JournalScan, NextIdx, NodeBox, NurseryDelta,
+    NurseryEntryRecord, NurseryParts, Refusal, RestoreError, Room, encode_record, hash, raw, read_journal, scan_journal,
+};
+
+fn tagged(tag: u8) -> HashBytes {
+    let mut hash = [0; 32];
+    hash[31] = tag;
+    HashBytes(hash)
+}
+
+fn insert(tag: u8, idx: u64, born_round: u32, data: &[u8]) -> NurseryDelta {
+    let entry = NurseryEntryRecord { hash: tagged(tag), idx: Idx::new(idx), born_round, data: data.to_vec() };
+    NurseryDelta { inserts: vec![entry], removes: vec![] }
+}
+
+// Three records: two inserts, and the first of them removed.
+fn three() -> [Vec<u8>; 3] {
+    let deltas =
+        [insert(1, 10, 0, &[0xaa, 0xbb]), insert(2, 11, 1, &[0xcc]), NurseryDelta { inserts: vec![], removes: vec![tagged(1)] }];
+    [1, 2, 3].map(|id| encode_record(id, &deltas[id as usize - 1]).unwrap().bytes().to_vec())
+}
+
+// A record and tables of so much room, with content that is no state's.
+fn nines(entries: usize, cell_bytes: usize) -> NurseryParts {
+    NurseryParts {
+        nursery: [9; 3],
+        entries: vec![9; 8 * entries].into(),
+        waiting: vec![9; 5 * entries].into(),
+        cells: vec![9; cell_bytes].into(),
+    }
+}
+
+// The reading, over such tables and into new ones, which agree: the listing that it leaves and where it ended, or the damaged record.
+type Reading = Result<(Vec<NurseryEntryRecord>, JournalEnd), DamagedRecord>;
+
+fn read(journal: &[u8], entries: usize, cell_bytes: usize) -> Reading {
+    let mut p = nines(entries, cell_bytes);
+    let lent = raw::read_journal(journal, &mut p.nursery, &mut p.entries, &mut p.waiting, &mut p.cells);
+    let owned = read_journal(journal, entries, cell_bytes);
+    match (lent, owned) {
+        (Ok(end), Ok((nursery, same))) => {
+            assert_eq!((end, &p), (same, &nursery.into_parts()));
+            Ok((CellNursery::from_parts(p).unwrap().snapshot_entries(), end))
+        }
+        (Err(refusal), Err(damaged)) => {
+            assert_eq!((refusal, refusal.number(), &p), (Refusal::Damaged, damaged.number(), &nines(entries, cell_bytes)));
+            Err(damaged)
+        }
+        other => panic!("the two forms differ: {other:?}"),
+    }
+}
+
+// ---- the definition
+
+fn number(bytes: &[u8]) -> u64 {
+    bytes.iter().rev().fold(0, |n, byte| n << 8 | u64::from(*byte))
+}
+
+// The items of a payload from a place on; none where one runs past its end.
+fn items(payload: &[u8]) -> Option<NurseryDelta> {
+    let (mut delta, mut at) = (NurseryDelta::default(), 16);
+    for _ in 0..number(payload.get(8..12)?) {
+        let head = payload.get(at..at + 46)?;
+        let len = number(&head[44..]) as usize;
+        delta.inserts.push(NurseryEntryRecord {
+            hash: HashBytes(head[..32].try_into().unwrap()),
+            idx: Idx::new(number(&head[32..40])),
+            born_round: number(&head[40..44]) as u32,
+            data: payload.get(at + 46..at + 46 + len)?.to_vec(),
+        });
+        at += 46 + len;
+    }
+    for _ in 0..number(payload.get(12..16)?) {
+        delta.removes.push(HashBytes(payload.get(at..at + 32)?.try_into().unwrap()));
+        at += 32;
+    }
+    Some(delta)
+}
+
+// The record that bytes start with: its length and its delta.
+fn decode(bytes: &[u8]) -> Result<(usize, NurseryDelta), Refusal> {
+    let stated = number(bytes.get(32..40).ok_or(Refusal::ShortRecord)?);
+    if stated >= u64::MAX - 7 {
+        return Err(Refusal::FarLength);
+    }
+    let payload = bytes[40..].get(..stated as usize).ok_or(Refusal::ShortRecord)?;
+    if hash(&bytes[32..40 + payload.len()]) != bytes[..32] {
+        return Err(Refusal::Mismatch);
+    }
+    Ok((40 + payload.len(), items(payload).ok_or(Refusal::Misfit)?))
+}
+
+// Records one after another, each given to a step, up to the first that is refused or that the step refuses.
+fn records(journal: &[u8], mut step: impl FnMut(NurseryDelta) -> Result<(), Refusal>) -> JournalScan {
+    let mut scan = JournalScan { records: 0, place: 0, refusal: None };
+    while scan.place < journal.len() {
+        match decode(&journal[scan.place..]).and_then(|(len, delta)| step(delta).map(|()| len)) {
+            Ok(len) => scan = JournalScan { records: scan.records + 1, place: scan.place + len, refusal: None },
+            Err(refusal) => return JournalScan { refusal: Some(refusal), ..scan },
+        }
+    }
+    scan
+}
+
+fn defined(journal: &[u8], entries: usize, cell_bytes: usize) -> (JournalScan, Reading) {
+    let scan = records(journal, |_| Ok(()));
+    if let Some(refusal) = scan.refusal.filter(|refusal| refusal.number() != 16) {
+        return (scan, Err(DamagedRecord { records: scan.records, place: scan.place, refusal }));
+    }
+    let mut all: BTreeMap<HashBytes, NurseryEntryRecord> = BTreeMap::new();
+    let end = records(journal, |delta| {
+        let mut next = all.clone();
+        for e in delta.inserts {
+            if next.insert(e.hash, e).is_some() {
+                return Err(Refusal::Present);
+            }
+        }
+        if next.len() > entries || next.values().map(|e| e.data.len()).sum::<usize>() > cell_bytes {
+            return Err(Refusal::NurseryFull);
+        }
+        delta.removes.iter().for_each(|hash| _ = next.remove(hash));
+        all = next;
+        Ok(())
+    });
+    (scan, Ok((all.into_values().collect(), JournalEnd { applied: end.records, place: end.place, refusal: end.refusal })))
+}
+
+// Scan and reading as defined; the reading.
+fn as_defined(journal: &[u8], entries: usize, cell_bytes: usize) -> Reading {
+    let (scan, reading) = defined(journal, entries, cell_bytes);
+    assert_eq!(scan_journal(journal), scan);
+    assert_eq!(scan.damaged(), reading.as_ref().err().copied());
+    assert_eq!(read(journal, entries, cell_bytes), reading);
+    reading
+}
+
+// ---- the worked journals
+
+fn ends(journal: &[u8], applied: u64, place: usize, number: u8, hashes: &[HashBytes]) {
+    let (listing, end) = as_defined(journal, 3, 9).unwrap();
+    assert_eq!((end.applied, end.place, end.refusal.map_or(0, Refusal::number)), (applied, place, number));
+    assert_eq!(listing.iter().map(|e| e.hash).collect::<Vec<_>>(), hashes);
+}
+
+fn damaged(journal: &[u8], records: u64, place: usize, refusal: Refusal, text: &str) {
+    let damaged = as_defined(journal, 3, 9).unwrap_err();
+    assert_eq!(damaged, DamagedRecord { records, place, refusal });
+    assert_eq!((damaged.number(), damaged.to_string().as_str()), (21, text));
+    let scan = scan_journal(&journal[..place]);
+    assert_eq!((scan.records, scan.place, scan.refusal), (records, place, None));
+}
+
+#[test]
+fn the_seven_worked_journals() {
+    let [first, second, third] = three();
+    assert_eq!([first.len(), second.len(), third.len()], [104, 103, 88]);
+    let whole = [&first[..], &second, &third].concat();
+    ends(&whole, 3, 295, 0, &[tagged(2)]);
+
+    let mut flipped = whole.clone();
+    flipped[150] ^= 1;
+    damaged(&flipped, 1, 104, Refusal::Mismatch, "damaged record at byte 104 of the journal, behind 1 record: mismatch");
+
+    let mut long = whole.clone();
+    long[136] = 0xff;
+    ends(&long, 1, 104, 16, &[tagged(1)]);
+
+    let mut far = whole.clone();
+    far[136..144].copy_from_slice(&[0xf8, 0xff, 0xff, 0xff, 0xff, 0xff, 0xff, 0xff]);
+    damaged(&far, 1, 104, Refusal::FarLength, "damaged record at byte 104 of the journal, behind 1 record: far length");
+
+    ends(&whole[..200], 1, 104, 16, &[tagged(1)]);
+
+    let twice = [&first[..], &first, &flipped[104..207]].concat();
+    damaged(&twice, 2, 208, Refusal::Mismatch, "damaged record at byte 208 of the journal, behind 2 records: mismatch");
+
+    let twice = [&first[..], &first, &second[..50]].concat();
+    ends(&twice, 1, 104, 12, &[tagged(1)]);
+}
+
+#[test]
+fn what_stands_behind_a_cut_is_not_looked_at() {
+    let [first, mut second, mut third] = three();
+    second[32..40].copy_from_slice(&(u64::MAX - 8).to_le_bytes());
+    third[0] ^= 1;
+    ends(&[&first[..], &second, &third].concat(), 1, 104, 16, &[tagged(1)]);
+    damaged(&third, 0, 0, Refusal::Mismatch, "damaged record at byte 0 of the journal, behind 0 records: mismatch");
+    ends(&[], 0, 0, 0, &[]);
+}
+
+#[test]
+fn damage_behind_a_delta_without_room() {
+    let [first, second, mut third] = three();
+    let journal = [&first[..], &second, &third].concat();
+    for (entries, cell_bytes) in [(1, 9), (3, 2)] {
+        let (_, end) = as_defined(&journal, entries, cell_bytes).unwrap();
+        assert_eq!((end.applied, end.place, end.refusal), (1, 104, Some(Refusal::NurseryFull)));
+    }
+    third[87] ^= 0x80;
+    let damage = DamagedRecord { records: 2, place: 207, refusal: Refusal::Mismatch };
+    for (entries, cell_bytes) in [(1, 9), (3, 2), (0, 0)] {
+        assert_eq!(as_defined(&[&first[..], &second, &third].concat(), entries, cell_bytes).unwrap_err(), damage);
+    }
+}
+
+#[test]
+fn a_damaged_journal_restores_no_box() {
+    let room = Room { counts: 1, entries: 3, cell_bytes: 9 };
+    let snapshot = Counters::new(NextIdx::new(0), 1).serialize();
+    let mut journal = three().concat();
+    assert_eq!(NodeBox::restore(&snapshot, &journal, room).unwrap().journal.applied, 3);
+    journal[150] ^= 1;
+    let error = NodeBox::restore(&snapshot, &journal, room).unwrap_err();
+    let damage = DamagedRecord { records: 1, place: 104, refusal: Refusal::Mismatch };
+    assert_eq!((error, error.number()), (RestoreError::from(damage), 21));
+    assert_eq!(error.to_string(), "journal refused with 21 at byte 104");
+    assert_eq!(error.source().unwrap().to_string(), damage.to_string());
+    let error = NodeBox::restore(&[], &journal, room).unwrap_err();
+    assert_eq!((error, error.number()), (RestoreError::from(Refusal::TornSnapshot), 8));
+    assert_eq!(error.to_string(), "snapshot refused with 8");
+    assert_eq!(error.source().unwrap().to_string(), "torn snapshot");
+}
+
+// ---- every one
+
+#[test]
+fn every_cut() {
+    let journal = three().concat();
+    for k in 0..=journal.len() {
+        let (_, end) = as_defined(&journal[..k], 3, 9).unwrap();
+        let whole = [0, 104, 207, 295];
+        assert_eq!(end.refusal, if whole.contains(&k) { None } else { Some(Refusal::ShortRecord) });
+        assert_eq!(end.place, *whole.iter().rfind(|place| **place <= k).unwrap());
+    }
+}
+
+#[test]
+fn every_changed_bit() {
+    let journal = three().concat();
+    let mut seen = BTreeMap::new();
+    for bit in 0..8 * journal.len() {
+        let mut flipped = journal.clone();
+        flipped[bit / 8] ^= 1 << (bit % 8);
+        let number = match as_defined(&flipped, 3, 9) {
+            Ok((_, end)) => end.refusal.map_or(0, Refusal::number),
+            Err(damaged) => damaged.number(),
+        };
+        *seen.entry(number).or_insert(0) += 1;
+    }
+    // A length of 64, 63 or 48 that a bit makes longer than the rest of the journal reads as a cut; all else is damage.
+    let longer = [(64, 295 - 40), (63, 295 - 144), (48, 295 - 247)]
+        .map(|(len, rest): (u64, u64)| (0..64).filter(|bit| len ^ 1 << bit > rest).count());
+    let cuts = longer.iter().sum::<usize>();
+    assert_eq!(seen, BTreeMap::from([(16, cuts), (21, 8 * journal.len() - cuts)]));
+}
+
+#[test]
+fn every_changed_bit_under_the_right_hash() {
+    let journal = three().concat();
+    let mut seen = BTreeMap::new();
+    for bit in 8 * 136..8 * 207 {
+        let mut changed = journal.clone();
+        changed[bit / 8] ^= 1 << (bit % 8);
+        // The second record, with the length that it states now, if that much is there.
+        let len = usize::try_from(number(&changed[136..144])).unwrap();
+        if let Some(hashed) = changed[136..].get(..len.saturating_add(8)) {
+            let hash = hash(hashed);
+            changed[104..136].copy_from_slice(&hash);
+        }
+        let number = match as_defined(&changed, 3, 9) {
+            Ok((_, end)) => end.refusal.map_or(0, Refusal::number),
+            Err(damaged) => damaged.refusal.number(),
+        };
+        *seen.entry(number).or_insert(0) += 1;
+    }
+    assert_eq!(seen.into_keys().collect::<Vec<_>>(), [0, 16, 19]);
+}
