@@ -7,7 +7,7 @@ use std::sync::Arc;
 
 use rayon::ThreadPool;
 
-use crate::definition::{self, Counters, Drained, Nursery};
+use crate::definition::{self, Counters, Drained, Ended, Nursery};
 use crate::port::Port;
 use crate::roaring::{Broken, Bytes};
 use crate::steps::{Delta, Hash, Insert, KINDS, Room, Sizes, Step};
@@ -17,7 +17,9 @@ use crate::storage::shard_state::original::Original;
 #[derive(Clone, Default)]
 pub struct Tally {
     pub steps: [u64; KINDS.len()],
-    pub refused: [u64; 21],
+    pub refused: [u64; 22],
+    /// How journals were read, and the number that ended them or that the damaged record is refused with.
+    pub journals: BTreeMap<(&'static str, u8), u64>,
     /// Steps that meet a difference of docs/DIFFERENCES.md, by its number there and by what the original did.
     pub known: BTreeMap<(&'static str, &'static str), u64>,
     pub transitions: u64,
@@ -30,9 +32,14 @@ impl Tally {
         *self.known.entry((what, theirs)).or_default() += 1;
     }
 
+    fn journal(&mut self, how: &'static str, number: u8) {
+        *self.journals.entry((how, number)).or_default() += 1;
+    }
+
     pub fn add(&mut self, other: &Tally) {
         self.steps.iter_mut().zip(other.steps).for_each(|(a, b)| *a += b);
         self.refused.iter_mut().zip(other.refused).for_each(|(a, b)| *a += b);
+        other.journals.iter().for_each(|(how, n)| *self.journals.entry(*how).or_default() += n);
         other.known.iter().for_each(|(what, n)| *self.known.entry(*what).or_default() += n);
         self.transitions += other.transitions;
         self.items += other.items;
@@ -479,9 +486,10 @@ impl Sides {
 
     /// The journal that a step reads.
     pub fn cut_journal(&self, step: &Step) -> Vec<u8> {
-        let Step::Journal { cut, flip, .. } = step else { return Vec::new() };
+        let Step::Journal { cut, more, flip, .. } = step else { return Vec::new() };
         let mut journal = self.journal.clone();
         journal.truncate((cut % (journal.len() as u64 + 1)) as usize);
+        journal.extend(more);
         if let (Some(flip), false) = (flip, journal.is_empty()) {
             let bit = flip % (8 * journal.len() as u64);
             journal[(bit / 8) as usize] ^= 1 << (bit % 8);
@@ -491,22 +499,52 @@ impl Sides {
 
     fn read_journal(&mut self, journal: Vec<u8>, keep: bool) -> Compared {
         self.tally.bytes += journal.len() as u64;
-        let (nursery, applied, place, number) = definition::read_journal(&journal, &self.sizes, &Original::hash);
-        let entries = nursery.listing();
-        let (end, listing) = self.port.read_journal(&journal, &self.sizes, keep);
-        same("port", "journal's end", &end, &(applied, place, number))?;
-        same("port", "journal's listing", &listing, &bytes_of(&entries))?;
-        let theirs = self.original.read_records(&journal, applied, keep);
-        same("original", "journal", &theirs, &Ok((entries, place)))?;
-        if number >= 16 {
+        let scan = definition::scan(&journal, &Original::hash);
+        same("port", "scan", &Port::scan_journal(&journal), &scan)?;
+        let wanted = definition::read_journal(&journal, &self.sizes, &Original::hash);
+        let port = self.port.read_journal(&journal, &self.sizes, keep);
+        let said = wanted.as_ref().map(|(nursery, ended)| (*ended, bytes_of(&nursery.listing()))).map_err(|number| *number);
+        self.answered(port, said)?;
+        match wanted {
+            Ok((nursery, ended)) => self.journal_read(&journal, nursery, ended, keep),
+            Err(_) => self.journal_damaged(&journal, scan),
+        }
+    }
+
+    /// A journal that is read: the original has the same nursery after as many records, and refuses one that is cut.
+    fn journal_read(&mut self, journal: &[u8], nursery: Nursery, (applied, place, number): Ended, keep: bool) -> Compared {
+        let theirs = self.original.read_records(journal, applied, keep);
+        same("original", "journal", &theirs, &Ok((nursery.listing(), place)))?;
+        if number == 16 {
             self.original_refuses(&journal[place..], number)?;
         }
-        self.tally.refused[usize::from(number)] += u64::from(number != 0);
+        let how = match number {
+            0 => "whole",
+            16 => "cut",
+            _ => "delta refused",
+        };
+        self.tally.journal(how, number);
         if keep {
             self.journal = journal[..place].to_vec();
             self.nursery = nursery;
             self.doubles = true;
         }
+        self.nursery_totals()
+    }
+
+    /// A journal that is refused: the original takes the records before the damaged one, and refuses that. All else is as before.
+    fn journal_damaged(&mut self, journal: &[u8], scan: Ended) -> Compared {
+        let (records, place, number) = scan;
+        same("port", "damaged record", &Port::damaged_record(journal), &Some(scan))?;
+        same("original", "records before a damaged one", &self.original.take_records(journal, records), &Ok(place))?;
+        self.original_refuses(&journal[place..], number)?;
+        let before = definition::read_journal(&journal[..place], &self.sizes, &Original::hash).expect("no damage before it").1;
+        let how = match (records, before.2) {
+            (0, _) => "damaged, the first record",
+            (_, 0) => "damaged, behind records",
+            _ => "damaged, behind a refused delta",
+        };
+        self.tally.journal(how, number);
         self.nursery_totals()
     }
 

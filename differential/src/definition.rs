@@ -372,16 +372,33 @@ fn read_items(s: &mut Bytes, inserts: u64, removes: u64) -> Option<Delta> {
     Some(delta)
 }
 
-/// A journal, read into an empty nursery: the nursery, records applied, the place after the last of them, and the number.
-pub fn read_journal(journal: &[u8], sizes: &Sizes, hash: &dyn Fn(&[u8]) -> Hash) -> (Nursery, usize, usize, u8) {
-    let (mut nursery, mut applied, mut place) = (Nursery::default(), 0, 0);
+/// How records were gone through: how many, the place after the last of them, and the number that ended it.
+pub type Ended = (usize, usize, u8);
+
+/// Records one after another, each given to a step, up to the first that is refused or whose step is.
+fn records(journal: &[u8], hash: &dyn Fn(&[u8]) -> Hash, mut step: impl FnMut(&Delta) -> Refused<()>) -> Ended {
+    let (mut records, mut place) = (0, 0);
     while place < journal.len() {
-        let taken = decode(&journal[place..], hash).and_then(|d| nursery.apply_commit(&d.delta, sizes).map(|()| d.payload));
-        match taken {
+        match decode(&journal[place..], hash).and_then(|d| step(&d.delta).map(|()| d.payload)) {
             Ok(payload) => place += 40 + payload,
-            Err(number) => return (nursery, applied, place, number),
+            Err(number) => return (records, place, number),
         }
-        applied += 1;
+        records += 1;
     }
-    (nursery, applied, place, 0)
+    (records, place, 0)
+}
+
+/// The first pass over a journal: records that are taken, whatever their deltas are.
+pub fn scan(journal: &[u8], hash: &dyn Fn(&[u8]) -> Hash) -> Ended {
+    records(journal, hash, |_| Ok(()))
+}
+
+/// A journal, read into an empty nursery. A record that is refused and not cut refuses the reading.
+pub fn read_journal(journal: &[u8], sizes: &Sizes, hash: &dyn Fn(&[u8]) -> Hash) -> Refused<(Nursery, Ended)> {
+    if !matches!(scan(journal, hash).2, 0 | 16) {
+        return Err(21);
+    }
+    let mut nursery = Nursery::default();
+    let ended = records(journal, hash, |delta| nursery.apply_commit(delta, sizes));
+    Ok((nursery, ended))
 }

@@ -60,6 +60,8 @@ pub struct Run {
     round: u32,
     longest_cell: u64,
     weights: [u64; 20],
+    /// Whether journals get more records behind them.
+    more: bool,
     /// Rounds and hashes that were inserted: the checked original panics where such a pair waits twice.
     inserted: BTreeSet<(u32, Hash)>,
 }
@@ -145,7 +147,7 @@ impl Run {
         if dense {
             weights[10] *= 10;
         }
-        Run { sizes, steps, dense, bases, spread, hashes, round, longest_cell, weights, inserted: BTreeSet::new(), r }
+        Run { sizes, steps, dense, bases, spread, hashes, round, longest_cell, weights, more: true, inserted: BTreeSet::new(), r }
     }
 
     /// A run for the list that is kept: one small box.
@@ -158,7 +160,7 @@ impl Run {
         }
         let bases = vec![0, 65_533, HALF - 3];
         let weights = [0, 6, 20, 12, 0, 3, 2, 2, 3, 0, 24, 0, 20, 12, 10, 3, 4, 6, 3, 3];
-        Run { sizes, dense: false, bases, spread: 8, hashes, round: 0, longest_cell: 20, weights, ..run }
+        Run { sizes, dense: false, bases, spread: 8, hashes, round: 0, longest_cell: 20, weights, more: false, ..run }
     }
 
     pub fn step(&mut self, sides: &Sides) -> Step {
@@ -451,12 +453,16 @@ impl Run {
         Step::Drain(round, self.r.room())
     }
 
-    /// The bytes of a record, whole, with more behind it, or damaged; half of the damaged ones with the right hash.
-    fn record(&mut self) -> Vec<u8> {
+    fn whole_record(&mut self) -> Vec<u8> {
         let id = self.r.next();
         let mut delta = self.delta(&Nursery::default());
         delta.inserts.iter_mut().for_each(|i| i.cell.truncate(300));
-        let mut bytes = Original::encode_record(id, &delta).0;
+        Original::encode_record(id, &delta).0
+    }
+
+    /// The bytes of a record, whole, with more behind it, or damaged; half of the damaged ones with the right hash.
+    fn record(&mut self) -> Vec<u8> {
+        let mut bytes = self.whole_record();
         match self.r.below(10) {
             0..2 => {}
             2 => self.damage_end(&mut bytes),
@@ -469,14 +475,27 @@ impl Run {
                 bytes = [front, rest].concat();
                 rehash(&mut bytes);
             }
-            7 => {
-                let at = self.r.pick(&[48, 49, 51, 52, 55]);
-                bytes[at] = self.r.pick(&[0, 1, 2, 3, 255]);
-                rehash(&mut bytes);
-            }
+            7 => self.recount(&mut bytes),
             _ => self.damage(&mut bytes),
         }
         bytes
+    }
+
+    /// Records behind a journal, whose hashes may be in the nursery there; half of them are whole.
+    fn records(&mut self) -> Vec<u8> {
+        let mut all = Vec::new();
+        for _ in 0..1 + self.r.size(4) {
+            let mut bytes = self.whole_record();
+            match self.r.below(8) {
+                0 => self.restate(&mut bytes),
+                1 => self.recount(&mut bytes),
+                2 => bytes.truncate(self.r.size(bytes.len())),
+                3 => self.damage(&mut bytes),
+                _ => {}
+            }
+            all.extend(bytes);
+        }
+        all
     }
 
     fn damage_end(&mut self, bytes: &mut Vec<u8>) {
@@ -495,10 +514,19 @@ impl Run {
         rehash(bytes);
     }
 
+    /// Another number of inserts or removes than the true one.
+    fn recount(&mut self, bytes: &mut [u8]) {
+        let at = self.r.pick(&[48, 49, 51, 52, 55]);
+        bytes[at] = self.r.pick(&[0, 1, 2, 3, 255]);
+        rehash(bytes);
+    }
+
     fn journal(&mut self, len: usize) -> Step {
         let cut = if self.r.chance(50) { len as u64 } else { self.r.next() };
         let flip = self.r.chance(25).then(|| self.r.next());
-        Step::Journal { cut, flip, keep: self.r.chance(40) }
+        let keep = self.r.chance(40);
+        let more = if self.more && self.r.chance(40) { self.records() } else { Vec::new() };
+        Step::Journal { cut, more, flip, keep }
     }
 
     fn bytes_to_hash(&mut self) -> Vec<u8> {

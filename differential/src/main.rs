@@ -178,6 +178,10 @@ fn print(tally: &Tally, runs: u64, start: Instant) {
     for (number, n) in tally.refused.iter().enumerate().filter(|(_, n)| **n > 0) {
         println!("  {number:<14}{n:>12}");
     }
+    println!("journals, with the number that ended them, or that their damaged record is refused with:");
+    for ((how, number), n) in &tally.journals {
+        println!("  {how:<34}{number:>2}{n:>12}");
+    }
     println!("known differences met, by their numbers in docs/DIFFERENCES.md:");
     for ((name, theirs), n) in &tally.known {
         println!("  {name:<14}{n:>12}  the original {theirs}");

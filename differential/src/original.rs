@@ -191,6 +191,15 @@ impl Original {
         Ok((entries, journal.len() - rest.len()))
     }
 
+    /// The first records of a journal, decoded one by one and not applied: the place after them.
+    pub fn take_records(&mut self, journal: &[u8], records: usize) -> Result<usize, String> {
+        let mut rest = journal;
+        for _ in 0..records {
+            format::decode_record(&mut rest, &mut self.buffer).map_err(|e| format!("{e:#}"))?;
+        }
+        Ok(journal.len() - rest.len())
+    }
+
     pub fn encode_record(id: u64, delta: &Delta) -> (Vec<u8>, Stats) {
         let record = format::encode_record(id, &theirs(delta));
         assert_eq!((record.id(), &record.hash()[..]), (id, &record.bytes()[..32]));

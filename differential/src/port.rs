@@ -1,10 +1,10 @@
 //! The port's side: the crate `selvaigo` over tables of the run's sizes. A call that changes nothing is made in both forms, held and
 //! checked, which have to agree; the others are made in the form that the run names. A checked call's tables are judged again after it.
 use selvaigo::{
-    CellNursery, CounterTransition, Counters, DeltaItems, HashBytes, Idx, NextIdx, NurseryParts, PromotedCell, Refusal, raw,
+    CellNursery, CounterTransition, Counters, DeltaItems, HashBytes, Idx, NextIdx, NurseryParts, PromotedCell, Refusal, raw, sys,
 };
 
-use crate::definition::{Drained, Refused, items};
+use crate::definition::{Drained, Ended, Refused, items};
 use crate::steps::{Delta, Hash, Sizes};
 
 pub struct Port {
@@ -209,10 +209,30 @@ impl Port {
         Ok(Decoded { id: d.id, hash: d.hash, stats: stats(d.stats), items })
     }
 
-    /// Records applied, the place after them, and the number. The nursery is the one that was read, if it is to be kept, else as before.
-    pub fn read_journal(&mut self, journal: &[u8], sizes: &Sizes, keep: bool) -> ((usize, usize, u8), Vec<u8>) {
-        let mut p = unread(sizes);
-        let end = raw::read_journal(journal, &mut p.nursery, &mut p.entries, &mut p.waiting, &mut p.cells);
+    pub fn scan_journal(journal: &[u8]) -> Ended {
+        let scan = selvaigo::scan_journal(journal);
+        (scan.records as usize, scan.place, scan.refusal.map_or(0, Refusal::number))
+    }
+
+    /// The damaged record for which new tables are refused; where it stands, as the scan gives it.
+    pub fn damaged_record(journal: &[u8]) -> Option<Ended> {
+        let damaged = selvaigo::read_journal(journal, 0, 0).err()?;
+        assert_eq!(damaged.number(), 21);
+        Some((damaged.records as usize, damaged.place, damaged.refusal.number()))
+    }
+
+    /// How the journal was read, and the listing of what it made. That is the nursery from here on, if it is to be kept; then the tables that are lent are those
+    /// in use, else they have any content. A refusal leaves them as they are.
+    pub fn read_journal(&mut self, journal: &[u8], sizes: &Sizes, keep: bool) -> Refused<(Ended, Vec<u8>)> {
+        let mut p = if keep { self.nursery.clone().into_parts() } else { unread(sizes) };
+        let before = p.clone();
+        let answer = raw::read_journal(journal, &mut p.nursery, &mut p.entries, &mut p.waiting, &mut p.cells);
+        if let Err(refusal) = answer {
+            let zeros = read_values(journal, &mut p) == (refusal.number(), [0; 3]);
+            assert!(zeros, "the port's values beside a refused journal aren't zeros");
+            assert!(p == before, "a refused journal changes the port's tables");
+        }
+        let end = number(answer)?;
         let read = CellNursery::from_parts(p).expect("a state after a journal");
         let mut out = vec![0; read.snapshot_entries_len()];
         let len = read.snapshot_entries_into(&mut out).unwrap();
@@ -220,6 +240,27 @@ impl Port {
         if keep {
             self.nursery = read;
         }
-        ((end.applied as usize, end.place, end.refusal.map_or(0, Refusal::number)), out)
+        Ok(((end.applied as usize, end.place, end.refusal.map_or(0, Refusal::number)), out))
     }
+}
+
+/// The answer to a journal, and the values beside it, as they come.
+fn read_values(journal: &[u8], p: &mut NurseryParts) -> (u8, [u64; 3]) {
+    let mut read = [7; 3];
+    // SAFETY: slices and arrays, none of which overlaps another.
+    let answer = unsafe {
+        sys::selvaigo_read_journal(
+            journal.as_ptr(),
+            journal.len(),
+            &mut p.nursery,
+            p.entries.as_mut_ptr(),
+            p.entries.len(),
+            p.waiting.as_mut_ptr(),
+            p.waiting.len(),
+            p.cells.as_mut_ptr(),
+            p.cells.len(),
+            &mut read,
+        )
+    };
+    (answer, read)
 }

@@ -63,7 +63,7 @@ fn fits(step: &Step, sides: &Sides) -> bool {
             Err(16) => definition::stated(bytes).is_none_or(|n| n < 1 << 20),
             Err(_) => false,
         },
-        Step::Journal { flip, keep, .. } => flip.is_none() && *keep,
+        Step::Journal { more, flip, keep, .. } => more.is_empty() && flip.is_none() && *keep,
         _ => true,
     }
 }
@@ -195,15 +195,15 @@ fn decoded(o: &mut Original, bytes: &[u8]) -> Vec<u8> {
     }
 }
 
-/// Its records one by one, until one isn't all there.
+/// Its records one by one, until one isn't all there: none of these journals is damaged, and no delta of them refused.
 fn read_journal(o: &mut Original, journal: &[u8]) -> Vec<u8> {
     let mut records = 0;
     while o.read_records(journal, records + 1, false).is_ok() {
         records += 1;
     }
     let (_, place) = o.read_records(journal, records, true).unwrap();
-    let number = if place == journal.len() { 0 } else { 16 };
-    [vec![number], words(&[records as u64, place as u64])].concat()
+    let ended = if place == journal.len() { 0 } else { 16 };
+    taken(&[records as u64, place as u64, ended])
 }
 
 /// The steps, each with the journal that it reads.

@@ -50,6 +50,10 @@ fn shorter(steps: &mut [Step], at: usize, fails: &dyn Fn(&[Step]) -> bool) {
     let new = match steps[at].clone() {
         Step::Batch(batch) => Step::Batch(fewer(batch, &|b| with(Step::Batch(b.to_vec())))),
         Step::Hash(bytes) => Step::Hash(fewer(bytes, &|b| with(Step::Hash(b.to_vec())))),
+        Step::Journal { cut, more, flip, keep } => {
+            let journal = |more: Vec<u8>| Step::Journal { cut, more, flip, keep };
+            journal(fewer(more, &|m| with(journal(m.to_vec()))))
+        }
         Step::Delta(mut delta) => {
             let kept = delta.clone();
             delta.inserts = fewer(delta.inserts, &|i| {

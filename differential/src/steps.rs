@@ -63,10 +63,11 @@ pub enum Step {
     Listing(Room),
     Encode(u64, Delta, Room),
     Decode(Vec<u8>),
-    /// The journal so far, cut at a byte and with a bit changed (places are taken modulo the length), read into an empty nursery; and
-    /// whether that is the nursery from here on.
+    /// The journal so far, cut at a byte, with more bytes behind it, and with a bit changed (places are taken modulo the length), read into
+    /// an empty nursery; and whether that is the nursery from here on.
     Journal {
         cut: u64,
+        more: Vec<u8>,
         flip: Option<u64>,
         keep: bool,
     },
@@ -177,8 +178,8 @@ impl Display for Step {
             Step::Drain(round, room) => write!(f, " {round} {room}"),
             Step::Lookup(hash) => write!(f, " {}", Hex(hash)),
             Step::Encode(id, delta, room) => write!(f, " {id} {room}{delta}"),
-            Step::Journal { cut, flip, keep } => {
-                write!(f, " {cut} {} {}", u8::from(*keep), flip.map_or("-".into(), |x| x.to_string()))
+            Step::Journal { cut, more, flip, keep } => {
+                write!(f, " {cut} {} {} {}", u8::from(*keep), flip.map_or("-".into(), |x| x.to_string()), Hex(more))
             }
         }
     }
@@ -297,7 +298,8 @@ fn parse_step(line: &str) -> Result<Step, String> {
         "decode" => Step::Decode(w.bytes()?),
         "journal" => {
             let [cut, keep] = w.numbers()?;
-            Step::Journal { cut, flip: w.word()?.parse().ok(), keep: keep != 0 }
+            let flip = w.word()?.parse().ok();
+            Step::Journal { cut, more: w.bytes()?, flip, keep: keep != 0 }
         }
         "hash" => Step::Hash(w.bytes()?),
         word => return Err(format!("no step: {word}")),

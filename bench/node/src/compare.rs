@@ -27,8 +27,9 @@ pub fn run(run: Run) {
         for inserts in [10, 1_000, 10_000] {
             compare_records::record(&run, inserts);
         }
-        for records in [1_000, 10_000] {
-            compare_records::journal(&run, shared, records);
+        // The last one is mostly hashed, the others mostly applied.
+        for (records, inserts, cell) in [(1_000, 1, 100), (10_000, 1, 100), (100, 100, 200), (100, 1, 20_000)] {
+            compare_records::journal(&run, shared, records, inserts, cell);
         }
         run.foot();
     });
@@ -47,11 +48,15 @@ fn hash_of(i: u64) -> [u8; 32] {
 
 // A cell of 100 bytes, born in a round with 99 others.
 fn insert(i: u64) -> NurseryEntryRecord {
+    insert_of(i, 100)
+}
+
+fn insert_of(i: u64, cell: u64) -> NurseryEntryRecord {
     NurseryEntryRecord {
         hash: HashBytes(hash_of(i)),
         idx: Idx::new(i),
         born_round: i as u32 / 100,
-        data: Bytes::from((0..100).map(|k| mixed(i * 100 + k) as u8).collect::<Vec<u8>>()),
+        data: Bytes::from((0..cell).map(|k| mixed(i * cell + k) as u8).collect::<Vec<u8>>()),
     }
 }
 

@@ -9,7 +9,7 @@ use selvaigo::{DeltaItems, decode_record, encode_items, raw};
 use super::super::cell_nursery::{CellNursery, NurseryDelta};
 use super::super::nursery_persistence::format;
 use super::compare_nursery::same_entries;
-use super::{insert, items_of, mixed, with_commas};
+use super::{insert, insert_of, items_of, mixed, with_commas};
 use crate::measure::{Run, side};
 
 pub fn hash(run: &Run, len: u64) {
@@ -60,13 +60,22 @@ fn same_record(record: &[u8], items: &[u8], written: selvaigo::RecordStats, buff
     );
 }
 
-// Records of one insert, read into an empty nursery; the original's are decoded and applied one by one, in one stripe.
-pub fn journal(run: &Run, pool: &Arc<ThreadPool>, records: u64) {
-    let what = format!("journal, {} records", with_commas(records));
+// Records of so many inserts, read into an empty nursery; the original's are decoded and applied one by one, in one stripe.
+pub fn journal(run: &Run, pool: &Arc<ThreadPool>, records: u64, inserts: u64, cell: u64) {
+    let mut what = format!("journal, {} records", with_commas(records));
+    if inserts > 1 {
+        what += &format!(" of {inserts} inserts");
+    }
+    if cell != 100 {
+        what += &format!(", cells of {} bytes", with_commas(cell));
+    }
     if !run.wanted(&what) {
         return;
     }
-    let delta = |i: u64| NurseryDelta { inserts: vec![insert(i)], removes: Vec::new() };
+    let delta = |i: u64| NurseryDelta {
+        inserts: (i * inserts..(i + 1) * inserts).map(|k| insert_of(k, cell)).collect(),
+        removes: Vec::new(),
+    };
     let journal: Vec<u8> = (0..records).flat_map(|i| format::encode_record(i, &delta(i)).bytes().to_vec()).collect();
     let mut buffer = Vec::new();
     let mut original = || {
@@ -77,8 +86,8 @@ pub fn journal(run: &Run, pool: &Arc<ThreadPool>, records: u64) {
         }
         nursery
     };
-    let n = records as usize;
-    let (nursery, end) = selvaigo::read_journal(&journal, n, 100 * n);
+    let n = (records * inserts) as usize;
+    let (nursery, end) = selvaigo::read_journal(&journal, n, cell as usize * n).unwrap();
     assert_eq!((end.applied, end.place, end.refusal), (records, journal.len(), None));
     same_entries(&original(), &nursery);
 
