@@ -30,7 +30,9 @@ returns-3 c =
     λ h. decode-cut h s (omega arith) (omega (arith, e)) (omega (arith, e))
 
 returns-4 : tie.Need-returns-4
-returns-4 c = search needs
+returns-4 c =
+    let e = c .before .before .read-le64 .ensures in
+    (e, (omega (arith, e), omega (arith, e)))
 
 pub frame-spec : {M : Type 1} → statement M
 frame-spec = tie.close (tie.spec returns read-le64-requires returns-2 sub-if3 returns-3 returns-4)
