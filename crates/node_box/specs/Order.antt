@@ -1,5 +1,5 @@
 -- A box's calls one after the other: document 01's sequence of two allocations and two batches, what the plain box makes of the
--- calls, which records a journal has, and where every entry waits, fixed by evaluation. The order of each call's refusals stands in the crate that has the call.
+-- calls, which records a journal has, what reading in answers, and where every entry waits, fixed by evaluation. The order of each call's refusals stands in the crate that has the call.
 -- Assumes nothing.
 use mathlib.Core.Path.{_≡_, refl}
 use Prim.Native.Nat.{ℕ, _*_, _^_}
@@ -13,9 +13,9 @@ use Rattle.base.specs.declared.Answer.the-variants.{Taken}
 use Rattle.counters.specs.declared.CounterTransition.{CounterTransition}
 use Rattle.cell_nursery.specs.Entries.{Entry, State}
 use Rattle.cell_nursery.specs.Items.{Delta, itemBytes}
-use Rattle.node_box.specs.Box.{Box, Call, allocate, batch, batchRecords, delta, drain, adjust, measure, locate, made, step, run, answers}
+use Rattle.node_box.specs.Box.{Box, Call, allocate, batch, batchRecords, delta, drain, adjust, measure, locate, made, step, run, answers, snapshotOf}
 use Rattle.node_box.specs.Plain.{Plain, Cell, freshPlain, plainStep, runPlain}
-use Rattle.node_box.specs.Journal.{Logged, loggedOf, whole}
+use Rattle.node_box.specs.Journal.{Logged, loggedOf, whole, Rebuild, rebuild}
 use Rattle.node_box.specs.Demand.{typed, everyEntryWaits}
 use Rattle.node_box.specs.Open.{evaluation}
 
@@ -65,6 +65,10 @@ pair = record { bytes = 8 ∷ 9 ∷ []; after = [] }
 
 abbrev left : ℕ → ℕ
 left k = length (whole k (pair ∷ pair ∷ []))
+
+-- a box read in from a snapshot and a journal, under a hash of 32 zeros: by it 40 zeros are a whole record without a payload, a misfit
+abbrev restored : List ℕ → List ℕ → Rebuild
+restored snapshot journal = rebuild (λ bs. zeros 32) snapshot journal (zeros 4) (zeros 16) (zeros 10) (zeros 2)
 
 -- the hash 1, born at 5, and waiting rows of that hash
 abbrev rows : List ℕ → State
@@ -127,6 +131,12 @@ pub record BoxLines : Type 0 where
   cut-before : left 1 ≡ 0
   cut-behind : left 2 ≡ 1
   cut-within : left 3 ≡ 1
+  -- it is read in where both are taken, also where the journal's last record is cut; else the answer is the snapshot's refusal, or the journal's
+  restored-both : answerNumber (restored (snapshotOf box) [] .answer) ≡ 0
+  restored-cut : answerNumber (restored (snapshotOf box) (zeros 39) .answer) ≡ 0
+  restored-cut-end : answerNumber (restored (snapshotOf box) (zeros 39) .ended) ≡ 16
+  restored-torn : answerNumber (restored [] (zeros 40) .answer) ≡ 8
+  restored-damaged : answerNumber (restored (snapshotOf box) (zeros 40) .answer) ≡ 21
   -- a record's fields are u64
   typed-most : typed (batchRecords (move max64 max64 max64 ∷ [])) ≡ true
   typed-past : typed (batchRecords (move 0 (2 ^ 64) 0 ∷ [])) ≡ false
@@ -181,6 +191,11 @@ box-lines =
       cut-before = refl;
       cut-behind = refl;
       cut-within = refl;
+      restored-both = refl;
+      restored-cut = refl;
+      restored-cut-end = refl;
+      restored-torn = refl;
+      restored-damaged = refl;
       typed-most = refl;
       typed-past = refl;
       waits = refl;
