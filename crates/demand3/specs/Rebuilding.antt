@@ -22,6 +22,7 @@ use Rattle.cell_nursery.specs.Layout.{recordOf, roomOf}
 use Rattle.cell_nursery.specs.Calls.{laid}
 use Rattle.cell_nursery.specs.EntryLaws.{well-empty, room-empty}
 use Rattle.journal.specs.Journal.{damaged, readJournal, ReadIn, readOut, readCall}
+use Rattle.journal.specs.ReadLaws.{read-undamaged}
 use Rattle.cell_nursery.specs.WaitLaws.{Waits, waits-empty}
 use Rattle.journal_laws.specs.ReadLaws.{endOf, Applies, applies-whole, applied-waits, applied-well, applied-fits, journal-cut, cut-undamaged}
 use Rattle.node_box.specs.Box.{Box, snapshotOf, listingOf}
@@ -93,8 +94,7 @@ module _ (a : History) (ok : Typed a) (k : ℕ) (short : k ≤ length (journalOf
     read-is : readCall hash (take k (journalOf hash (start a) (a .calls))) es ws cs
         ≡ readOut es ws cs
         (record { state = state; records = length applied-steps; place = length (stepBytes hash applied-steps); ended = endOf (length (stepBytes hash applied-steps)) k })
-    unfolding readCall
-    read-is = rw (undamaged, reading)
+    read-is = rw (← reading) (read-undamaged hash (take k (journalOf hash (start a) (a .calls))) es ws cs undamaged)
 
     nursery-read : ChangedHeld (length es) (length ws) (length cs) (laid es ws cs state) state
     unfolding state

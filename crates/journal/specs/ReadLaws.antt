@@ -3,23 +3,23 @@
 -- Assumes nothing.
 use mathlib.Core.Path.{_≡_, refl, sym, ap, _∙_}
 use mathlib.Core.Logic.{_↔_, _⊎_, inl, inr}
-use mathlib.Core.Bool.{Bool, true, false}
+use mathlib.Core.Bool.{Bool, true, false, not, false≢true}
 use mathlib.Core.List.{List, [], _∷_}
 use Prim.Native.Nat.{ℕ, zero, suc, _+_, _≤_, _<_}
 use native.Mathlib.Omega.{arith}
 use lib.ListN.{length, drop, length-drop}
-use Rattle.base.specs.Logic.{pick}
-use Rattle.base.specs.Answers.{Outcome, refused, taken, either, _>>=_}
+use borrow.Author.Tests.{eq-eqb, ne-eqb}
+use Rattle.base.specs.Answers.{Outcome, refused, taken, either, numberOf, _>>=_}
 use Rattle.base.specs.OutcomeLaws.{refused-taken, taken-refused, taken-same}
 use Rattle.base.specs.AnswerLaws.{not-refused}
 use Rattle.base.specs.declared.Refusal.{Refusal}
-use Rattle.base.specs.declared.Refusal.the-variants.{Damaged}
+use Rattle.base.specs.declared.Refusal.the-variants.{ShortRecord, Damaged}
 use Rattle.base.specs.declared.Answer.the-variants.{Taken, Refused}
 use Rattle.cell_nursery.specs.Entries.{State}
 use Rattle.cell_nursery.specs.Delta.{Room, applyDelta}
 use Rattle.cell_nursery.specs.Layout.{roomOf}
 use Rattle.format.specs.Record.{Decoding, decode}
-use Rattle.journal.specs.Journal.{End, Step, recordsFrom, passRecord, damaged, applyRecord, readJournal, notRead, readOut, readCall}
+use Rattle.journal.specs.Journal.{End, Step, recordsFrom, passRecord, damages, damaged, applyRecord, readJournal, ReadIn, notRead, readOut, readCall}
 
 -- ---- one record
 module _ (hash : List ℕ → List ℕ) (m : Room) (s : State) (bs : List ℕ) where
@@ -177,13 +177,30 @@ module _ {S : Type 0} (step : Step S) where
     records-ends s records place bs p = ends-with (length bs) s records place bs (omega arith) p
 
 -- ---- the call
--- a reading that is taken is that of its records, none of which is damaged
-pub read-taken : (hash : List ℕ → List ℕ) (bs es ws cs : List ℕ) → readCall hash bs es ws cs .result .answer ≡ Taken
-    → (damaged hash bs ≡ false) × (readCall hash bs es ws cs ≡ readOut es ws cs (readJournal hash (roomOf es ws cs) bs))
-unfolding readCall notRead
-read-taken hash bs es ws cs = go (damaged hash bs)
-  where
-    go : (d : Bool) → pick d (notRead Damaged es ws cs) (readOut es ws cs (readJournal hash (roomOf es ws cs) bs)) .result .answer ≡ Taken
-        → (d ≡ false) × (pick d (notRead Damaged es ws cs) (readOut es ws cs (readJournal hash (roomOf es ws cs) bs)) ≡ readOut es ws cs (readJournal hash (roomOf es ws cs) bs))
-    go true e = absurd (not-refused (sym e))
-    go false e = (refl, refl)
+-- a refusal is damage exactly where its number isn't 16
+pub damages-other : (q : Refusal) → (damages (Refused q) ≡ true) ↔ (¬ (numberOf q ≡ numberOf ShortRecord))
+unfolding damages
+damages-other q = (
+  λ e f. false≢true (sym (ap not (eq-eqb (numberOf q) (numberOf ShortRecord) f)) ∙ e),
+  λ n. ap not (ne-eqb (numberOf q) (numberOf ShortRecord) n),
+)
+
+module _ (hash : List ℕ → List ℕ) (bs es ws cs : List ℕ) where
+  -- a damaged journal isn't read, any other one is
+  pub read-damaged : damaged hash bs ≡ true → readCall hash bs es ws cs ≡ notRead Damaged es ws cs
+  unfolding readCall
+  read-damaged e = rw e
+
+  pub read-undamaged : damaged hash bs ≡ false → readCall hash bs es ws cs ≡ readOut es ws cs (readJournal hash (roomOf es ws cs) bs)
+  unfolding readCall
+  read-undamaged e = rw e
+
+  -- a reading that is taken is that of its records, none of which is damaged
+  pub read-taken : readCall hash bs es ws cs .result .answer ≡ Taken
+      → (damaged hash bs ≡ false) × (readCall hash bs es ws cs ≡ readOut es ws cs (readJournal hash (roomOf es ws cs) bs))
+  unfolding notRead
+  read-taken t = go (damaged hash bs) refl
+    where
+      go : (d : Bool) → damaged hash bs ≡ d → (damaged hash bs ≡ false) × (readCall hash bs es ws cs ≡ readOut es ws cs (readJournal hash (roomOf es ws cs) bs))
+      go true e = absurd (not-refused (sym t ∙ ap (λ (c : ReadIn). c .result .answer) (read-damaged e)))
+      go false e = (e, read-undamaged e)

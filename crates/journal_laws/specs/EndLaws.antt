@@ -2,7 +2,7 @@
 -- Assumes nothing.
 use mathlib.Core.Path.{_≡_, refl, sym, ap, _∙_}
 use mathlib.Core.Logic.{_↔_, _⊎_, inl, inr}
-use mathlib.Core.Bool.{Bool, true, false, not, _||_, false≢true}
+use mathlib.Core.Bool.{Bool, true, false, _||_, false≢true}
 use mathlib.Core.Option.{some}
 use mathlib.Core.List.{List, [], _∷_}
 use Prim.Native.Nat.{ℕ, suc, _+_, _-_, _^_, _≤_, _<_}
@@ -11,7 +11,7 @@ use native.Mathlib.Decide.{decLt, ℕ-discrete}
 use lib.ListN.{length, take, drop, length-drop}
 use lib.Seq.{drop-drop}
 use lib.Dec.{leb, ltb, eqb}
-use borrow.Author.Tests.{le-leb, leb-true, le-ltb, eq-eqb, ne-eqb}
+use borrow.Author.Tests.{le-leb, leb-true, le-ltb}
 use Rattle.base.specs.Logic.{eqbList, all, any, elem, max32}
 use Rattle.base.specs.Bytes.{unle}
 use Rattle.base.specs.Laws.{and-left, and-right}
@@ -35,7 +35,7 @@ use Rattle.format.specs.Record.{Decoding, decode}
 use Rattle.format.specs.RefusalLaws.{stated, payload, Whole, Matches, payload-some, decode-short, decode-mismatch, decode-taken, decode-numbers}
 use Rattle.format.specs.TakenLaws.{taken-lent}
 use Rattle.journal.specs.Journal.{End, passRecord, scan, damages, damaged, applyRecord, readJournal, ReadIn, notRead, readOut, readCall}
-use Rattle.journal.specs.ReadLaws.{RecordRefused, record-refused, record-taken, passed-refused, passed-taken, recordsIn, records-taken, records-refused, Stopped, at-end, at-record, records-ends}
+use Rattle.journal.specs.ReadLaws.{RecordRefused, record-refused, record-taken, passed-refused, passed-taken, recordsIn, records-taken, records-refused, Stopped, at-end, at-record, records-ends, damages-other, read-damaged, read-undamaged}
 use Rattle.base.specs.MaybeLaws.{Gives, gives, gives-bind, given}
 use Rattle.journal_laws.specs.DeltaLaws.{Bytes, cut-bytes, le-bytes, hash-bytes, list-bytes}
 
@@ -119,13 +119,6 @@ module _ (hash : List ℕ → List ℕ) (bs : List ℕ) where
       (suc k, ap (λ (l : List ℕ). passes (suc k) (p + (40 + n)) l) (sym (drop-drop (40 + n) p bs)) ∙ sym turn ∙ same)
 
   -- a record is damaged exactly where the first pass says so
-  damages-other : (q : Refusal) → (damages (Refused q) ≡ true) ↔ (¬ (numberOf q ≡ numberOf ShortRecord))
-  unfolding damages
-  damages-other q = (
-    λ e f. false≢true (sym (ap not (eq-eqb (numberOf q) 16 f)) ∙ e),
-    λ n. ap not (ne-eqb (numberOf q) 16 n),
-  )
-
   pub damaged-exactly : (damaged hash bs ≡ true) ↔ DamagedRecord
   unfolding damaged scan damages
   damaged-exactly = (to, from)
@@ -360,19 +353,19 @@ module _ (hash : List ℕ → List ℕ) (bs es ws cs : List ℕ) where
         }
 
   pub read-ends : Bytes bs → ReadEnds (readCall hash bs es ws cs)
-  unfolding readCall readOut notRead any
+  unfolding readOut notRead any
   read-ends b = go (damaged hash bs) refl
     where
       go : (d : Bool) → damaged hash bs ≡ d → ReadEnds (readCall hash bs es ws cs)
       go true e =
-          rw e
+          rw (read-damaged hash bs es ws cs e)
           (record {
             damaged-record = ((λ f. damaged-exactly hash bs .0 e), λ x. refl);
             answers = refl;
             ends = λ f. absurd (not-refused (sym f));
           })
       go false e =
-          rw e
+          rw (read-undamaged hash bs es ws cs e)
           (record {
             damaged-record = ((λ f. absurd (not-refused f)), λ x. absurd (false≢true (sym e ∙ damaged-exactly hash bs .1 x)));
             answers = refl;

@@ -32,7 +32,7 @@ use Rattle.format.specs.RefusalLaws.{Whole, Matches}
 use Rattle.format.specs.TakenLaws.{taken-lent}
 use Rattle.journal.specs.declared.JournalScan.{JournalScan}
 use Rattle.journal.specs.Journal.{recordsFrom, scan, damages, damaged, applyRecord, readJournal, effect, notRead, readOut, readCall}
-use Rattle.journal.specs.ReadLaws.{RecordRefused, record-refused, record-taken, recordsIn, records-taken, records-refused}
+use Rattle.journal.specs.ReadLaws.{RecordRefused, record-refused, record-taken, recordsIn, records-taken, records-refused, read-damaged}
 use Rattle.journal_laws.specs.DeltaLaws.{delta-read, delta-fits, taken-accepted}
 use Rattle.journal_laws.specs.EndLaws.{Reached, reached-next, undamaged-matches}
 use Rattle.journal_read.specs.declared.Step.{Step}
@@ -84,7 +84,9 @@ module _ (hash : List ℕ → List ℕ) (s : List ℕ) (r₀ : Nursery) (es₀ w
 
     -- the record at this place: no record of the journal is damaged, so that a whole one has its hash
     pub known : damaged hash s ≡ false → Whole (take (length s - place) (drop place s)) → Matches hash (take (length s - place) (drop place s))
-    known sound w = rw (take-all (length s - place) (drop place s) (omega (arith, length-drop place s))) (undamaged-matches hash s sound (x .reached) (rw (take-all (length s - place) (drop place s) (omega (arith, length-drop place s))) at w))
+    known sound w =
+        let all = take-all (length s - place) (drop place s) (omega (arith, length-drop place s)) in
+        rw all (undamaged-matches hash s sound (x .reached) (rw all at w))
 
     -- what a record at this place did; the bytes from there on are lent as a part of the journal
     module _ (more : place < length s) (u : U8 s) (q : Step) (es' ws' cs' : List ℕ) (e : stepped q es' ws' cs' ≡ recordCall hash r es ws cs (take (length s - place) (drop place s))) where
@@ -238,12 +240,7 @@ module _ (hash : List ℕ → List ℕ) (s : List ℕ) where
   unfolding damaged
   pass-says x b e f = rw (← e) (sym f)
 
-  module _ (es ws cs : List ℕ) where
-    pub not-read : damaged hash s ≡ true
-        → effect (record { answer = Refused Damaged; nursery = record { entries = 0; waiting = 0; «cell_bytes» = 0 }; applied = 0; place = 0; ended = Taken }) es ws cs ≡ readCall hash s es ws cs
-    unfolding readCall notRead recordOf empty cellBytes sumOf
-    not-read e = rw e
-
-    pub read : damaged hash s ≡ false → readOut es ws cs (readJournal hash (roomOf es ws cs) s) ≡ readCall hash s es ws cs
-    unfolding readCall
-    read e = rw e
+  pub not-read : (es ws cs : List ℕ) → damaged hash s ≡ true
+      → effect (record { answer = Refused Damaged; nursery = record { entries = 0; waiting = 0; «cell_bytes» = 0 }; applied = 0; place = 0; ended = Taken }) es ws cs ≡ readCall hash s es ws cs
+  unfolding notRead recordOf empty cellBytes sumOf
+  not-read es ws cs e = sym (read-damaged hash s es ws cs e)

@@ -3,26 +3,27 @@
 -- Assumes nothing.
 use Prim.Native.Nat.{ℕ}
 use native.Mathlib.Omega.{arith}
-use mathlib.Core.Path.{_≡_, refl}
+use mathlib.Core.Path.{_≡_, refl, sym, _∙_}
 use mathlib.Core.Logic.{_↔_}
 use mathlib.Core.Bool.{Bool, true, false, not, _||_, true≢false}
 use mathlib.Core.List.{List, [], _∷_}
 use lib.ListN.{length, getD}
 use lib.Dec.{ltb, eqb}
 use borrow.Author.Tests.{ne-eqb}
-use Rattle.base.specs.Logic.{pick, any, elem, zeros}
+use Rattle.base.specs.Logic.{any, elem, zeros}
 use Rattle.base.specs.Answers.{Outcome, refused, taken, numberOf, answerNumber, _>>=_, _>>_, refuseIf, orRefuse}
 use Rattle.base.specs.declared.Answer.{Answer}
 use Rattle.base.specs.declared.Answer.the-variants.{Taken, Refused}
-use Rattle.base.specs.declared.Refusal.the-variants.{OutputFull, Broken, Damaged}
+use Rattle.base.specs.declared.Refusal.the-variants.{OutputFull, Broken}
 use Rattle.blake3.specs.Spec as blake3
 use Rattle.cell_nursery.specs.Items.{deltaOf}
-use Rattle.cell_nursery.specs.Layout.{roomOf, holds}
+use Rattle.cell_nursery.specs.Layout.{holds}
 use Rattle.cell_nursery.specs.Calls.{lengthWidth}
 use Rattle.slices.specs.ByteLaws.{U8, u8-bytes}
 use Rattle.format.specs.Record.{Encoding, Decoding, encode, decode}
 use Rattle.format.specs.Calls.{noStats, encodedOut, encodeCall, decodedOf, decodeCall}
-use Rattle.journal.specs.Journal.{scan, damages, damaged, readJournal, ReadIn, notRead, readOut, readCall}
+use Rattle.journal.specs.Journal.{scan, damages, damaged, ReadIn, notRead, readOut, readCall}
+use Rattle.journal.specs.ReadLaws.{read-damaged, read-undamaged}
 use Rattle.journal_laws.specs.LoadLaws.{read-holds}
 use Rattle.journal_laws.specs.EndLaws.{endNumbers, read-ends}
 use Rattle.state_words.specs.Words.{nurseryWords, wordsAfter, Unchanged, left}
@@ -57,41 +58,47 @@ unfolding journalSaid readInSaid
 journal-answers bs v es ws cs u = read-ends blake3.hash bs es ws cs (u8-bytes bs u) .answers
 
 pub journal-ends : (bs v es ws cs : List ℕ) → U8 bs → elem (getD (getD (journalSaid bs v es ws cs .values) 0 []) 2 0) endNumbers ≡ true
-unfolding journalSaid readInSaid readCall notRead readOut any
+unfolding journalSaid readInSaid notRead readOut any
 journal-ends bs v es ws cs u = go (damaged blake3.hash bs) refl
   where
     go : (d : Bool) → damaged blake3.hash bs ≡ d → elem (answerNumber (readCall blake3.hash bs es ws cs .result .ended)) endNumbers ≡ true
-    go true e = rw e
-    go false e = read-ends blake3.hash bs es ws cs (u8-bytes bs u) .ends (rw e) .numbers
+    go true e = rw (read-damaged blake3.hash bs es ws cs e)
+    go false e = read-ends blake3.hash bs es ws cs (u8-bytes bs u) .ends (rw (read-undamaged blake3.hash bs es ws cs e)) .numbers
 
 pub journal-unchanged : (bs v es ws cs : List ℕ) → Unchanged (zeros 3 ∷ []) (v ∷ es ∷ ws ∷ cs ∷ []) (journalSaid bs v es ws cs)
-unfolding journalSaid readInSaid readCall notRead readOut
-journal-unchanged bs v es ws cs = go (damaged blake3.hash bs)
+unfolding journalSaid readInSaid notRead readOut
+journal-unchanged bs v es ws cs = go (damaged blake3.hash bs) refl
   where
-    go : (d : Bool)
-        → Unchanged (zeros 3 ∷ []) (v ∷ es ∷ ws ∷ cs ∷ []) (readInSaid v (pick d (notRead Damaged es ws cs) (readOut es ws cs (readJournal blake3.hash (roomOf es ws cs) bs))))
-    go true n = (refl, refl)
-    go false n = absurd (n refl)
+    go : (d : Bool) → damaged blake3.hash bs ≡ d → Unchanged (zeros 3 ∷ []) (v ∷ es ∷ ws ∷ cs ∷ []) (readInSaid v (readCall blake3.hash bs es ws cs))
+    go true e = rw (read-damaged blake3.hash bs es ws cs e) (λ n. (refl, refl))
+    go false e = rw (read-undamaged blake3.hash bs es ws cs e) (λ n. absurd (n refl))
 
--- the scan says whether the reading is refused: it is where what ended it is neither the journal's end nor a record that is cut
 pub scan-taken : (bs : List ℕ) → scanSaid bs .answer ≡ 0
 unfolding scanSaid scannedSaid
 scan-taken bs = refl
 
-pub scan-says : (bs v es ws cs : List ℕ) → (journalSaid bs v es ws cs .answer ≡ 21) ↔ (elem (getD (getD (scanSaid bs .values) 0 []) 2 0) (0 ∷ 16 ∷ []) ≡ false)
-unfolding journalSaid readInSaid readCall notRead readOut scanSaid scannedSaid damaged damages any
-scan-says bs v es ws cs = go (scan blake3.hash bs .ended)
+-- a number that is neither 0 nor 16 is damage
+neither : (a : Answer) → (elem (answerNumber a) (0 ∷ 16 ∷ []) ≡ false) ↔ (damages a ≡ true)
+unfolding damages any
+neither Taken = (λ e. absurd (true≢false e), λ e. absurd (true≢false (sym e)))
+neither (Refused q) = go (eqb (numberOf q) 16) (eqb (numberOf q) 0) (ne-eqb (numberOf q) 0 (number-not-zero q))
   where
-    cut : (b z : Bool) → z ≡ false
-        → (answerNumber (pick (not b) (notRead Damaged es ws cs) (readOut es ws cs (readJournal blake3.hash (roomOf es ws cs) bs)) .result .answer) ≡ 21) ↔ ((z || (b || false)) ≡ false)
-    cut b true e = absurd (true≢false e)
-    cut true false e = (λ f. absurd (omega arith), λ f. absurd (true≢false f))
-    cut false false e = (λ f. refl, λ f. refl)
+    go : (b z : Bool) → z ≡ false → ((z || (b || false)) ≡ false) ↔ (not b ≡ true)
+    go b true e = absurd (true≢false e)
+    go true false e = (λ f. absurd (true≢false f), λ f. absurd (true≢false (sym f)))
+    go false false e = (λ f. refl, λ f. refl)
 
-    go : (a : Answer)
-        → (answerNumber (pick (damages a) (notRead Damaged es ws cs) (readOut es ws cs (readJournal blake3.hash (roomOf es ws cs) bs)) .result .answer) ≡ 21) ↔ (elem (answerNumber a) (0 ∷ 16 ∷ []) ≡ false)
-    go Taken = (λ e. absurd (omega arith), λ e. absurd (true≢false e))
-    go (Refused q) = cut (eqb (numberOf q) 16) (eqb (numberOf q) 0) (ne-eqb (numberOf q) 0 (number-not-zero q))
+-- the scan says whether the reading is refused: it is where what ended the scan is neither the journal's end nor a record that is cut
+pub scan-says : (bs v es ws cs : List ℕ) → (journalSaid bs v es ws cs .answer ≡ 21) ↔ (elem (getD (getD (scanSaid bs .values) 0 []) 2 0) (0 ∷ 16 ∷ []) ≡ false)
+unfolding journalSaid readInSaid notRead readOut scanSaid scannedSaid damaged
+scan-says bs v es ws cs = go (damaged blake3.hash bs) refl
+  where
+    go : (d : Bool) → damaged blake3.hash bs ≡ d
+        → (answerNumber (readCall blake3.hash bs es ws cs .result .answer) ≡ 21) ↔ (elem (answerNumber (scan blake3.hash bs .ended)) (0 ∷ 16 ∷ []) ≡ false)
+    go true e = rw (read-damaged blake3.hash bs es ws cs e) (λ f. neither (scan blake3.hash bs .ended) .1 e, λ f. refl)
+    go false e =
+        rw (read-undamaged blake3.hash bs es ws cs e)
+        (λ f. absurd (omega arith), λ f. absurd (true≢false (sym (neither (scan blake3.hash bs .ended) .0 f) ∙ e)))
 
 -- ---- what is left may be lent to the held forms, whatever ended the reading
 pub journal-held : (bs v es ws cs : List ℕ) → U8 bs → let s = journalSaid bs v es ws cs in s .answer ≡ 0 → Held (left 0 s) (left 1 s) (left 2 s) (left 3 s)

@@ -4,7 +4,8 @@ use mathlib.Core.Path.{sym, _∙_}
 use mathlib.Core.Bool.{true, false}
 use borrow.Author.Needs.{needs}
 use Rattle.blake3.specs.Spec.{hash}
-use Rattle.journal_read.specs.ReadLaws.{fresh-holds, fresh-read, pass-says, not-read, read}
+use Rattle.journal.specs.ReadLaws.{read-undamaged}
+use Rattle.journal_read.specs.ReadLaws.{fresh-holds, fresh-read, pass-says, not-read}
 use Rattle.journal_read.proofs.read_journal.Statement.{statement}
 use Rattle.journal_read.proofs.read_journal.Tie as tie
 
@@ -52,7 +53,7 @@ returns-2 c =
     let sound = pass-says hash (a .s .now) (g .before .before .scan .result) false (g .before .before .scan .ensures) (sym (g .if1 .left) ∙ g .before .damages .ensures) in
     c .before .before .before .before .before .before .read-records .ensures
     ∙ fresh-read (a .es .now) (a .ws .now) (a .cs .now) (n .result) (n .last .0) (n .last .1 .0) (n .last .1 .1 .0) (n .ensures) hash (a .s .now)
-    ∙ read hash (a .s .now) (a .es .now) (a .ws .now) (a .cs .now) sound
+    ∙ sym (read-undamaged hash (a .s .now) (a .es .now) (a .ws .now) (a .cs .now) sound)
 
 pub read-journal-spec : {M : Type 1} → statement M
 read-journal-spec =
