@@ -15,7 +15,7 @@ use Rattle.base.specs.Output.{put, fitting, written}
 use Rattle.base.specs.declared.Answer.{Answer}
 use Rattle.base.specs.declared.Answer.the-variants.{Taken, Refused}
 use Rattle.base.specs.declared.Refusal.{Refusal}
-use Rattle.base.specs.declared.Refusal.the-variants.{Spent, Unallocated, Repeated, OffTotal, FalseOld, TableFull, Version, TornSnapshot, BadBitmap, BadLarge, TierClash, Present, NurseryFull, TooLong, OutputFull, ShortRecord, FarLength, Mismatch, Misfit, Broken, Damaged}
+use Rattle.base.specs.declared.Refusal.the-variants.{Spent, Unallocated, Repeated, OffTotal, FalseOld, TableFull, Version, TornSnapshot, BadBitmap, BadLarge, TierClash, Present, NurseryFull, TooLong, OutputFull, ShortRecord, FarLength, Mismatch, Misfit, Broken, Damaged, Leftover}
 use Rattle.counters.specs.declared.Counters.{Counters}
 use Rattle.counters.specs.Counts.{State, fresh, allocate, get}
 use Rattle.counters.specs.Batch.{applyBatch}
@@ -142,6 +142,7 @@ number-not-zero Mismatch e = omega arith
 number-not-zero Misfit e = omega arith
 number-not-zero Broken e = omega arith
 number-not-zero Damaged e = omega arith
+number-not-zero Leftover e = omega arith
 
 pub new-held : (next : ℕ) (t : List ℕ) → Held (left 0 (newSaid next t)) (left 1 (newSaid next t))
 unfolding newSaid changedSaid
