@@ -20,7 +20,7 @@ use Rattle.counters.specs.Layout.{wordsOf}
 use Rattle.counters.specs.CallLaws.{alloc-refused, batch-refused, shrink-refused}
 use Rattle.cell_nursery.specs.Entries as entries
 use Rattle.cell_nursery.specs.Entries.{empty}
-use Rattle.journal_laws.specs.DeltaLaws.{Bytes}
+use Rattle.base.specs.SpellLaws.{Bytes}
 use Rattle.node_box.specs.Box.{Box, Call, allocate, batch, batchRecords, delta, drain, get, shrink, adjust, measure, serialize, lookup, locate, listing, made, accepted, withCounters, withNursery, step, run}
 use Rattle.node_box.specs.Demand.{typed, History, Typed, start, end}
 use Rattle.demand3.specs.States.{countersAfter, nurseryAfter}

@@ -6,7 +6,7 @@ use mathlib.Core.Logic.{_↔_}
 use mathlib.Core.Bool.{Bool, true, false}
 use mathlib.Core.Option.{Option, none, some}
 use mathlib.Core.List.{List, [], _∷_, map}
-use Prim.Native.Nat.{ℕ, suc, _^_, _≤_, _<_}
+use Prim.Native.Nat.{ℕ, suc, _^_, _<_}
 use native.Mathlib.Omega.{arith}
 use native.Mathlib.Decide.{decLt}
 use lib.ListN.{length, length-append}
@@ -18,7 +18,7 @@ use Rattle.base.specs.ListLaws.{all-weaker}
 use Rattle.base.specs.Maybe.{maybe}
 use Rattle.cell_nursery.specs.Entries.{Entry, insertBytes}
 use Rattle.cell_nursery.specs.Drain.{listingBytes}
-use Rattle.cell_nursery.specs.ItemLaws.{fitsItem, item-fits, readInsert-append, length-hashBytes}
+use Rattle.cell_nursery.specs.ItemLaws.{fitsItem, item-fits, readInsert-append, length-insert}
 use Rattle.cell_nursery.specs.Items.{readInsert}
 use Rattle.cell_nursery.specs.EntryLaws.{entryAt}
 use Rattle.node_box.specs.Box.{listingOf}
@@ -28,10 +28,6 @@ use Rattle.demand3.specs.Agreement.{cellOf, cellAt, in-step}
 use Rattle.demand3.specs.Outputs.{listing-is}
 
 -- ---- a listing's bytes are read in one way
-length-insert : (e : Entry) → 32 ≤ length (insertBytes e)
-unfolding insertBytes
-length-insert e = simp (length-append, length-hashBytes) (omega arith)
-
 one-reading : (es fs : List Entry) → all fitsItem es ≡ true → all fitsItem fs ≡ true → flat insertBytes es ≡ flat insertBytes fs → es ≡ fs
 unfolding flat all
 one-reading [] [] a b q = refl

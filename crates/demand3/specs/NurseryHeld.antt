@@ -24,7 +24,8 @@ use Rattle.cell_nursery.specs.HashLaws.{U64}
 use Rattle.cell_nursery.specs.LayoutLaws.{WellFormed, held, number-entries, bytes-same, length-entriesTable, length-waitingTable, length-cellsTable, stateOf-laid, holds-laid, entries-laid, cells-laid}
 use Rattle.cell_nursery.specs.EntryLaws.{well-empty, well-after, well-drained, InRoom, room-empty, room-after}
 use Rattle.cell_nursery.specs.Calls.{Changed, DrainedOut, laid, laidOut, onState, newCall, lengthWidth, deltaCall, drainedOut, drainCall}
-use Rattle.journal_laws.specs.DeltaLaws.{Bytes, Accepted, delta-read, delta-fits, taken-accepted}
+use Rattle.base.specs.SpellLaws.{Bytes}
+use Rattle.journal_laws.specs.DeltaLaws.{Accepted, delta-read, delta-fits, taken-accepted}
 use Rattle.format.specs.RecordLaws.{Fits}
 use Rattle.node_box.specs.Box.{delta, drain}
 use Rattle.demand3.specs.States.{nurseryAfter}

@@ -70,13 +70,15 @@ abbrev stats : ℕ → ℕ → ℕ → ℕ → ℕ → RecordStats
 stats a b c d e = record { «payload_bytes» = a; «metadata_bytes» = b; «cell_bytes» = c; «insert_ops» = d; «remove_ops» = e }
 
 pub record RefusalOrder : Type 0 where
-  -- decoding: under 40 bytes, 17, 16, 18, 19
+  -- decoding: under 40 bytes, 17, 16, 18, 19, 22
   -- a length that is too far, of a record that has 40 bytes
   seventeen-before-sixteen : decoded (zeros 32 ++ le64 (2 ^ 64 - 8)) ≡ 17
   -- a record that is short, with another hash than its own
   sixteen-before-eighteen : decoded (zeros 32 ++ le64 1) ≡ 16
   -- a payload of one byte, with another hash than its own
   eighteen-before-nineteen : decoded (zeros 32 ++ le64 1 ++ 0 ∷ []) ≡ 18
+  -- a byte after no item, with another hash than its own. (19 and 22 never meet: items run past the stated length or end before it)
+  eighteen-before-twenty-two : decoded (zeros 32 ++ le64 17 ++ zeros 17) ≡ 18
   -- encoding: 14, 15
   -- a cell of 65,536 bytes, and no output
   fourteen-before-fifteen : (c : List ℕ) → length c ≡ 65536 → encodedWide 1 (wideInsert c) ≡ 14
@@ -98,10 +100,15 @@ pub record RefusalBounds : Type 0 where
   last-byte : decoded (take 31 noItems ++ 9 ∷ drop 32 noItems) ≡ 18
   other-length : decoded (take 32 noItems ++ 17 ∷ drop 33 noItems ++ 0 ∷ []) ≡ 18
   other-id : decoded (take 40 noItems ++ 6 ∷ drop 41 noItems) ≡ 18
-  -- 19: a stated length of 15, of 16, and of 17 with a byte that is ignored
+  -- 19: a stated length of 15; 22: of 17, with no item; 16 is right
   stated-15 : decodedOf (zeros 15) ≡ 19
   stated-16 : decodedOf (zeros 16) ≡ 0
-  stated-17 : decodedOf (zeros 17) ≡ 0
+  stated-17 : decodedOf (zeros 17) ≡ 22
+  -- 22: a byte after an insert, after a cell, after a remove; a whole remove too many
+  after-insert : decodedOf (payload 0 1 0 (zeros 47)) ≡ 22
+  after-cell : decodedOf (payload 0 1 0 (zeros 44 ++ 1 ∷ 0 ∷ 0 ∷ 0 ∷ [])) ≡ 22
+  after-remove : decodedOf (payload 0 0 1 (zeros 33)) ≡ 22
+  one-remove-more : decodedOf (payload 0 0 1 (zeros 64)) ≡ 22
   -- 19: an insert one byte short, whole, and whole but for its cell; a remove one byte short, and whole
   insert-short : decodedOf (payload 0 1 0 (zeros 45)) ≡ 19
   insert-whole : decodedOf (payload 0 1 0 (zeros 46)) ≡ 0
@@ -205,6 +212,7 @@ refusal-order =
       seventeen-before-sixteen = refl;
       sixteen-before-eighteen = refl;
       eighteen-before-nineteen = refl;
+      eighteen-before-twenty-two = refl;
       fourteen-before-fifteen = λ c h. as-read 1 c (one-read c (omega (arith, h))) ∙ rw h refl;
       broken-before-fourteen = λ c h. as-read 2 c (two-read c (omega (arith, h)));
     }
@@ -226,6 +234,10 @@ refusal-bounds =
       stated-15 = refl;
       stated-16 = refl;
       stated-17 = refl;
+      after-insert = refl;
+      after-cell = refl;
+      after-remove = refl;
+      one-remove-more = refl;
       insert-short = refl;
       insert-whole = refl;
       cell-short = refl;

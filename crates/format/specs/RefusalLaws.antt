@@ -2,7 +2,7 @@
 -- Assumes nothing.
 use mathlib.Core.Path.{_≡_, refl, sym, ap, _∙_}
 use mathlib.Core.Logic.{_↔_, _⊎_, inl, inr}
-use mathlib.Core.Bool.{Bool, true, false, not, _||_, false≢true}
+use mathlib.Core.Bool.{Bool, true, false, not, _||_, false≢true, or-true}
 use mathlib.Core.Option.{Option, none, some}
 use mathlib.Core.List.{List, [], _∷_}
 use Prim.Native.Nat.{ℕ, _+_, _-_, _^_, _≤_, _<_}
@@ -10,14 +10,15 @@ use native.Mathlib.Omega.{arith}
 use native.Mathlib.Decide.{decLt}
 use lib.ListN.{length, take, drop}
 use lib.Dec.{leb, ltb, eqb}
+use borrow.Author.Tests.{lt-ltb, ltb-false}
 use Rattle.base.specs.Logic.{eqbList, any, elem}
 use Rattle.base.specs.Bytes.{unle}
 use Rattle.base.specs.Answers.{Outcome, refused, taken, _>>=_, _>>_, refuseIf, orRefuse, answerOf, numberOf}
 use Rattle.base.specs.ListLaws.{leb-le, ltb-lt}
-use Rattle.base.specs.OutcomeLaws.{other-number, refused-taken, taken-refused, taken-same, ends-here, ends-later, never-ends, Refuses, refuses-none, refuses-step}
+use Rattle.base.specs.OutcomeLaws.{other-number, refused-taken, taken-refused, taken-same, passed, ends-here, ends-later, never-ends, Refuses, refuses-none, refuses-step}
 use Rattle.base.specs.declared.Answer.the-variants.{Refused}
 use Rattle.base.specs.declared.Refusal.{Refusal}
-use Rattle.base.specs.declared.Refusal.the-variants.{TooLong, OutputFull, ShortRecord, FarLength, Mismatch, Misfit, Broken}
+use Rattle.base.specs.declared.Refusal.the-variants.{TooLong, OutputFull, ShortRecord, FarLength, Mismatch, Misfit, Broken, Leftover}
 use Rattle.slices.specs.Laws.{length-part, eqbList-true, eqbList-false}
 use Rattle.slices.specs.NumberLaws.{readLe-at, readLe-short}
 use Rattle.cell_nursery.specs.Items.{Delta, deltaOf}
@@ -26,7 +27,8 @@ use Rattle.cell_nursery.specs.Calls.{lengthWidth}
 use Rattle.base.specs.AnswerLaws.{exactly, ends-twice, missing-here, missing-later, missing-numbers, Answers, says, says-numbers}
 use Rattle.cell_nursery.specs.RefusalLaws.{IsLong, long-test}
 use Rattle.format.specs.Payload.{Payload, payloadBytes, payloadOf}
-use Rattle.format.specs.Record.{Encoding, Decoding, recordBytes, statsOf, encode, decode}
+use Rattle.format.specs.Record.{Encoding, Decoding, recordBytes, statsOf, encode, parse, leftover, decode}
+use Rattle.format.specs.RecordLaws.{length-payload}
 use Rattle.format.specs.Calls.{encodedOut, encodeCall, decodedOf, decodeCall}
 
 -- ---- a payload
@@ -89,7 +91,7 @@ module _ (p : List ℕ) where
       to : payloadOf p ≡ some q → Parts
       to e = elim (decLt (length p) 16) [ yes h ↦ absurd (none-some (payload-short h) e) | no h ↦ later (omega arith) (itemsOf p) refl e ]
 
--- ---- decoding
+-- ---- parsing
 -- the length that a record states, and the payload of that length
 abbrev pub stated : List ℕ → ℕ
 stated bs = unle (take 8 (drop 32 bs))
@@ -132,9 +134,9 @@ module _ (hash : List ℕ → List ℕ) (bs : List ℕ) where
   last-numbers = missing-numbers Misfit (payloadOf (payload bs)) (λ p. taken (decoding p)) [] (λ p. refuses-none [] (decoding p))
 
   -- 16, short record: under 40 bytes, or fewer than 40 + stated length
-  pub decode-short : (decode hash bs ≡ refused ShortRecord) ↔ ((length bs < 40) ⊎ ((stated bs < 2 ^ 64 - 8) × (length bs < 40 + stated bs)))
-  unfolding decode any
-  decode-short =
+  pub parse-short : (parse hash bs ≡ refused ShortRecord) ↔ ((length bs < 40) ⊎ ((stated bs < 2 ^ 64 - 8) × (length bs < 40 + stated bs)))
+  unfolding parse any
+  parse-short =
       exactly
       (ends-twice head-test
       (ends-later far-test (other-number (omega arith))
@@ -150,9 +152,9 @@ module _ (hash : List ℕ → List ℕ) (bs : List ℕ) where
       from (inr (n, k)) = elim (decLt (length bs) 40) [ yes h ↦ inl h | no h ↦ inr (h, ((λ f. omega arith), k)) ]
 
   -- 17, far length: stated length at or above 2^64 − 8
-  pub decode-far : (decode hash bs ≡ refused FarLength) ↔ ((40 ≤ length bs) × (2 ^ 64 - 8 ≤ stated bs))
-  unfolding decode any
-  decode-far =
+  pub parse-far : (parse hash bs ≡ refused FarLength) ↔ ((40 ≤ length bs) × (2 ^ 64 - 8 ≤ stated bs))
+  unfolding parse any
+  parse-far =
       exactly
       (ends-later head-test (other-number (omega arith))
       (ends-here far-test (never-ends cut-test (other-number (omega arith)) (never-ends hash-test (other-number (omega arith)) (λ e. false≢true (last-numbers FarLength e))))))
@@ -166,9 +168,9 @@ module _ (hash : List ℕ → List ℕ) (bs : List ℕ) where
       ((λ (h, (f, (c, q))). ((omega arith, omega arith), q)), λ (h, q). ((λ l. omega (arith, h .1)), ((λ l. omega (arith, h .0)), ((λ l. omega (arith, h .1)), q))))
 
   -- 18, mismatch: the record hash is wrong
-  pub decode-mismatch : (decode hash bs ≡ refused Mismatch) ↔ (Whole bs × (¬ Matches hash bs))
-  unfolding decode any
-  decode-mismatch = whole-then (other-number (omega arith)) (other-number (omega arith)) (ends-here hash-test (λ e. false≢true (last-numbers Mismatch e)))
+  pub parse-mismatch : (parse hash bs ≡ refused Mismatch) ↔ (Whole bs × (¬ Matches hash bs))
+  unfolding parse any
+  parse-mismatch = whole-then (other-number (omega arith)) (other-number (omega arith)) (ends-here hash-test (λ e. false≢true (last-numbers Mismatch e)))
 
   -- what comes behind this one comes where the hash is right
   matches : ¬ (¬ Matches hash bs) → Matches hash bs
@@ -179,9 +181,9 @@ module _ (hash : List ℕ → List ℕ) (bs : List ℕ) where
       go false e = absurd (n (eqbList-false (hash (take (8 + stated bs) (drop 32 bs))) (take 32 bs) e))
 
   -- 19, misfit: stated length under 16, or items run past it
-  pub decode-misfit : (decode hash bs ≡ refused Misfit) ↔ (Whole bs × Matches hash bs × ((stated bs < 16) ⊎ (itemsOf (payload bs) ≡ none)))
-  unfolding decode
-  decode-misfit =
+  pub parse-misfit : (parse hash bs ≡ refused Misfit) ↔ (Whole bs × Matches hash bs × ((stated bs < 16) ⊎ (itemsOf (payload bs) ≡ none)))
+  unfolding parse
+  parse-misfit =
       exactly
       (whole-then (other-number (omega arith)) (other-number (omega arith))
       (ends-later hash-test (other-number (omega arith)) (exactly (missing-here Misfit (payloadOf (payload bs)) (λ p. taken (decoding p)) (λ p e. taken-refused e)) (payload-none (payload bs)))))
@@ -196,18 +198,18 @@ module _ (hash : List ℕ → List ℕ) (bs : List ℕ) where
       more w (inr e) = inr e
 
   -- taken: none of the four
-  pub decode-taken : (x : Decoding) → (decode hash bs ≡ taken x)
+  pub parse-taken : (x : Decoding) → (parse hash bs ≡ taken x)
       ↔ (Whole bs × Matches hash bs × ((p : Payload) × (payloadOf (payload bs) ≡ some p) × (x ≡ record { id = p .id; hash = take 32 bs; delta = p .delta; stats = statsOf (stated bs) (p .delta) })))
-  unfolding decode
-  decode-taken x =
+  unfolding parse
+  parse-taken x =
       exactly
       (whole-then refused-taken refused-taken (ends-later hash-test refused-taken (missing-later Misfit (payloadOf (payload bs)) (λ p. taken (decoding p)) refused-taken)))
       ((λ (w, (n, (p, i, e))). (w, matches n, (p, i, taken-same (decoding p) x .0 e))), λ (w, m, (p, i, e)). (w, ((λ n. n m), (p, i, taken-same (decoding p) x .1 e))))
 
   -- 16 to 19, and no other
-  pub decode-numbers : Refuses (16 ∷ 17 ∷ 18 ∷ 19 ∷ []) (decode hash bs)
-  unfolding decode any
-  decode-numbers q e =
+  pub parse-numbers : Refuses (16 ∷ 17 ∷ 18 ∷ 19 ∷ []) (parse hash bs)
+  unfolding parse any
+  parse-numbers q e =
       once (eqb (numberOf q) 16) (eqb (numberOf q) 17) (elem (numberOf q) (18 ∷ 19 ∷ []))
       (refuses-step ShortRecord (17 ∷ 16 ∷ 18 ∷ 19 ∷ []) head-test
       (refuses-step FarLength (16 ∷ 18 ∷ 19 ∷ []) far-test
@@ -217,6 +219,99 @@ module _ (hash : List ℕ → List ℕ) (bs : List ℕ) where
       once true b c f = refl
       once false true c f = refl
       once false false c f = f
+
+  -- ---- decoding, by what parsing gives
+  pub still-refused : (r : Refusal) → parse hash bs ≡ refused r → decode hash bs ≡ refused r
+  unfolding decode
+  still-refused r e = rw e
+
+  pub still-taken : (x : Decoding) → parse hash bs ≡ taken x → leftover (x .stats) ≡ 0 → decode hash bs ≡ taken x
+  unfolding decode
+  still-taken x e z = rw (e, z)
+
+  pub left-over : (x : Decoding) → parse hash bs ≡ taken x → 0 < leftover (x .stats) → decode hash bs ≡ refused Leftover
+  unfolding decode
+  left-over x e h = rw (e, lt-ltb 0 (leftover (x .stats)) h)
+
+  -- a refusal with another number than 22 is parsing's
+  refused-before : {q : Refusal} → (numberOf Leftover ≡ numberOf q → ⊥) → (decode hash bs ≡ refused q) ↔ (parse hash bs ≡ refused q)
+  unfolding decode
+  refused-before {q} other = (to (parse hash bs) refl, still-refused q)
+    where
+      to : (o : Outcome Decoding) → parse hash bs ≡ o → (o >>= (λ d. refuseIf (ltb 0 (leftover (d .stats))) Leftover >> taken d)) ≡ refused q → parse hash bs ≡ refused q
+      to (refused r) i e = i ∙ e
+      to (taken d) i e = absurd (never-ends (ltb-lt 0 (leftover (d .stats))) (other-number other) taken-refused e)
+
+  -- 16, short record
+  pub decode-short : (decode hash bs ≡ refused ShortRecord) ↔ ((length bs < 40) ⊎ ((stated bs < 2 ^ 64 - 8) × (length bs < 40 + stated bs)))
+  decode-short = exactly (refused-before (omega arith)) parse-short
+
+  -- 17, far length
+  pub decode-far : (decode hash bs ≡ refused FarLength) ↔ ((40 ≤ length bs) × (2 ^ 64 - 8 ≤ stated bs))
+  decode-far = exactly (refused-before (omega arith)) parse-far
+
+  -- 18, mismatch
+  pub decode-mismatch : (decode hash bs ≡ refused Mismatch) ↔ (Whole bs × (¬ Matches hash bs))
+  decode-mismatch = exactly (refused-before (omega arith)) parse-mismatch
+
+  -- 19, misfit
+  pub decode-misfit : (decode hash bs ≡ refused Misfit) ↔ (Whole bs × Matches hash bs × ((stated bs < 16) ⊎ (itemsOf (payload bs) ≡ none)))
+  decode-misfit = exactly (refused-before (omega arith)) parse-misfit
+
+  -- a payload's bytes beside its stated length
+  over : (p : Payload) → (0 < leftover (statsOf (stated bs) (p .delta))) ↔ (length (payloadBytes (p .id) (p .delta)) < stated bs)
+  unfolding leftover statsOf
+  over p = let l = length-payload (p .id) (p .delta) in ((λ h. omega arith), λ h. omega arith)
+
+  -- 22, leftover bytes: the payload's items end before its stated length does
+  pub decode-leftover : (decode hash bs ≡ refused Leftover)
+      ↔ (Whole bs × Matches hash bs × ((p : Payload) × (payloadOf (payload bs) ≡ some p) × (length (payloadBytes (p .id) (p .delta)) < stated bs)))
+  unfolding decode any
+  decode-leftover = (to (parse hash bs) refl, λ (w, m, (p, i, h)). left-over (decoding p) (parse-taken (decoding p) .1 (w, m, (p, i, refl))) (over p .1 h))
+    where
+      Over : Type 0
+      Over = Whole bs × Matches hash bs × ((p : Payload) × (payloadOf (payload bs) ≡ some p) × (length (payloadBytes (p .id) (p .delta)) < stated bs))
+
+      to : (o : Outcome Decoding) → parse hash bs ≡ o → (o >>= (λ d. refuseIf (ltb 0 (leftover (d .stats))) Leftover >> taken d)) ≡ refused Leftover → Over
+      to (refused r) i e = absurd (false≢true (parse-numbers Leftover (i ∙ e)))
+      to (taken d) i e =
+          let h = ends-here {P = 0 < leftover (d .stats)} (ltb-lt 0 (leftover (d .stats))) taken-refused .0 e in
+          let (w, m, (p, j, same)) = parse-taken d .0 i in
+          (w, m, (p, j, over p .0 (rw same at h)))
+
+  -- taken: none of the five
+  pub decode-taken : (x : Decoding) → (decode hash bs ≡ taken x) ↔ ((parse hash bs ≡ taken x) × (leftover (x .stats) ≡ 0))
+  unfolding decode
+  decode-taken x = (to (parse hash bs) refl, λ (e, z). still-taken x e z)
+    where
+      to : (o : Outcome Decoding) → parse hash bs ≡ o → (o >>= (λ d. refuseIf (ltb 0 (leftover (d .stats))) Leftover >> taken d)) ≡ taken x → (parse hash bs ≡ taken x) × (leftover (x .stats) ≡ 0)
+      to (refused r) i e = absurd (refused-taken e)
+      to (taken d) i e =
+          let (z, same) = passed (ltb 0 (leftover (d .stats))) Leftover (taken d) x e in
+          let k : leftover (d .stats) ≡ 0 = omega (arith, ltb-false 0 (leftover (d .stats)) z) in
+          (i ∙ same, rw (taken-same d x .0 same) k)
+
+  -- 16 to 19 and 22, and no other
+  pub decode-numbers : Refuses (16 ∷ 17 ∷ 18 ∷ 19 ∷ 22 ∷ []) (decode hash bs)
+  unfolding decode any
+  decode-numbers q = go (parse hash bs) refl
+    where
+      more : (a b c d e : Bool) → (a || (b || (c || (d || false)))) ≡ true → (a || (b || (c || (d || (e || false))))) ≡ true
+      more true b c d e f = refl
+      more false true c d e f = refl
+      more false false true d e f = refl
+      more false false false true e f = refl
+      more false false false false e f = absurd (false≢true f)
+
+      go : (o : Outcome Decoding) → parse hash bs ≡ o → (o >>= (λ d. refuseIf (ltb 0 (leftover (d .stats))) Leftover >> taken d)) ≡ refused q → elem (numberOf q) (16 ∷ 17 ∷ 18 ∷ 19 ∷ 22 ∷ []) ≡ true
+      go (refused r) i e = more (eqb (numberOf q) 16) (eqb (numberOf q) 17) (eqb (numberOf q) 18) (eqb (numberOf q) 19) (eqb (numberOf q) 22) (parse-numbers q (i ∙ e))
+      go (taken d) i e =
+          let z = refuses-step Leftover [] (ltb-lt 0 (leftover (d .stats))) (refuses-none [] d) q e in
+          last (eqb (numberOf q) 16) (eqb (numberOf q) 17) (eqb (numberOf q) 18) (eqb (numberOf q) 19) (eqb (numberOf q) 22) z
+        where
+          last : (a b c d e : Bool) → (e || false) ≡ true → (a || (b || (c || (d || (e || false))))) ≡ true
+          last a b c d true f = rw (or-true d, or-true c, or-true b, or-true a)
+          last a b c d false f = absurd (false≢true f)
 
   -- the call's answer
   decode-answered : decodeCall hash bs .answer ≡ answerOf (decode hash bs)
@@ -231,8 +326,8 @@ module _ (hash : List ℕ → List ℕ) (bs : List ℕ) where
   pub decode-answer : (r : Refusal) → (decodeCall hash bs .answer ≡ Refused r) ↔ (decode hash bs ≡ refused r)
   decode-answer r = says (decode hash bs) decode-answered (λ e. e, λ e. e)
 
-  pub decode-call-numbers : Answers (16 ∷ 17 ∷ 18 ∷ 19 ∷ []) (decodeCall hash bs .answer)
-  decode-call-numbers = says-numbers (16 ∷ 17 ∷ 18 ∷ 19 ∷ []) (decode hash bs) decode-answered decode-numbers
+  pub decode-call-numbers : Answers (16 ∷ 17 ∷ 18 ∷ 19 ∷ 22 ∷ []) (decodeCall hash bs .answer)
+  decode-call-numbers = says-numbers (16 ∷ 17 ∷ 18 ∷ 19 ∷ 22 ∷ []) (decode hash bs) decode-answered decode-numbers
 
 -- ---- encoding
 module _ (hash : List ℕ → List ℕ) (id : ℕ) (wide : Bool) (inserts removes : ℕ) (items out : List ℕ) where

@@ -34,6 +34,10 @@ idle = recordBytes firstBytes 1 (record { inserts = []; removes = [] })
 abbrev spoiled : List ℕ → List ℕ
 spoiled bs = 9 ∷ drop 1 bs
 
+-- a record of no item with one byte after it, and the right hash
+abbrev running-on : List ℕ
+running-on = let b : List ℕ = 17 ∷ zeros 24 in firstBytes b ++ b
+
 -- a record of which a payload byte was flipped; one whose stated length is 2 ^ 64 - 8; one that states a length of 300; and one of 15 payload bytes with the
 -- right hash
 abbrev flipped : List ℕ → List ℕ
@@ -91,6 +95,7 @@ pub record Endings : Type 0 where
   first-of-all : ending (spoiled (put 1)) ≡ turned-down
   far-length : ending (put 1 ++ far) ≡ turned-down
   misfits : ending (put 1 ++ misfit ++ take 1 (put 2)) ≡ turned-down
+  leftovers : ending (put 1 ++ running-on ++ put 2) ≡ turned-down
   before-a-cut : ending (put 1 ++ spoiled (put 2) ++ take 50 (put 3)) ≡ turned-down
   -- also behind a record whose delta would be refused; with none damaged, that delta ends the reading
   behind-present : ending (put 1 ++ put 1 ++ spoiled (put 2)) ≡ turned-down
@@ -100,6 +105,7 @@ pub record Endings : Type 0 where
   scan-mismatch : scanned (put 1 ++ put 1 ++ spoiled (put 2) ++ put 3) ≡ record { answer = 0; applied = 2; place = 204; number = 18 }
   scan-far : scanned (put 1 ++ far) ≡ record { answer = 0; applied = 1; place = 102; number = 17 }
   scan-misfit : scanned misfit ≡ record { answer = 0; applied = 0; place = 0; number = 19 }
+  scan-leftovers : scanned (put 1 ++ running-on ++ put 2) ≡ record { answer = 0; applied = 1; place = 102; number = 22 }
   scan-cut : scanned (put 1 ++ reaching ++ spoiled (put 2)) ≡ record { answer = 0; applied = 1; place = 102; number = 16 }
   scan-end : scanned (put 1 ++ put 1) ≡ record { answer = 0; applied = 2; place = 204; number = 0 }
   -- the first record whose delta is refused
@@ -132,6 +138,7 @@ endings =
       first-of-all = refl;
       far-length = refl;
       misfits = refl;
+      leftovers = refl;
       before-a-cut = refl;
       behind-present = refl;
       behind-full = refl;
@@ -139,6 +146,7 @@ endings =
       scan-mismatch = refl;
       scan-far = refl;
       scan-misfit = refl;
+      scan-leftovers = refl;
       scan-cut = refl;
       scan-end = refl;
       present = refl;

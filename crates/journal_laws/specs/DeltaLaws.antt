@@ -1,52 +1,40 @@
 -- A delta that is read from bytes, and is not too long, is one that a record can carry.
 -- Assumes nothing.
-use mathlib.Core.Path.{_≡_, refl, ap, _∙_}
+use mathlib.Core.Path.{_≡_, refl, ap}
 use mathlib.Core.Bool.{Bool, true, false, _&&_, _||_}
 use mathlib.Core.Option.{Option, some}
-use mathlib.Core.List.{List, [], _∷_, reverse}
-use Prim.Native.Nat.{ℕ, zero, suc, _+_, _*_, _^_, _≤_, _<_}
+use mathlib.Core.List.{List, [], _∷_}
+use Prim.Native.Nat.{ℕ, zero, suc, _*_, _^_, _≤_, _<_}
 use native.Mathlib.Omega.{arith}
-use lib.ListN.{length, length-append, length-reverse}
-use lib.Seq.{length-take-le}
+use lib.ListN.{length, length-append}
 use lib.Dec.{leb, ltb}
-use borrow.Author.Tests.{lt-ltb, leb-true, le-leb, ltb-false}
+use borrow.Author.Tests.{lt-ltb, le-leb, ltb-true, ltb-false}
 use Rattle.base.specs.Logic.{all, any, flat, max32}
-use Rattle.base.specs.MaybeLaws.{Gives, gives, gives-bind, gives-ensure, given}
+use Rattle.base.specs.MaybeLaws.{Gives, gives, gives-bind, gives-weaken, given}
+use Rattle.base.specs.SpellLaws.{Bytes, cut-spells, readLe-spells}
 use Rattle.base.specs.Answers.{taken, _>>_, refuseIf}
 use Rattle.base.specs.OutcomeLaws.{refused-taken, taken-same}
 use Rattle.base.specs.declared.Refusal.the-variants.{Present, NurseryFull, TooLong}
 use Rattle.base.specs.Bytes.{cut, readLe, readList}
 use Rattle.base.specs.Laws.{and-left, and-right, and-both, length-digits}
-use Rattle.base.specs.ListLaws.{or-false, all-weaker, all-take, all-drop}
-use Rattle.base.specs.NumberLaws.{number-below}
-use Rattle.cell_nursery.specs.Entries.{Entry, State, hashBytes, insertBytes}
+use Rattle.base.specs.ListLaws.{or-false, all-weaker}
+use Rattle.cell_nursery.specs.Entries.{Entry, State, insertBytes}
 use Rattle.cell_nursery.specs.Items.{Delta, itemBytes, readHash, readInsert, deltaOf}
 use Rattle.cell_nursery.specs.Delta.{Room, tooLong, present, full, stateAfter, applyDelta}
-use Rattle.cell_nursery.specs.ItemLaws.{fitsItem, length-hashBytes}
-use Rattle.slices.specs.ByteLaws.{all-reverse}
+use Rattle.cell_nursery.specs.ItemLaws.{fitsItem, length-insert, length-hashes}
+use Rattle.cell_nursery.specs.SpellLaws.{readHash-spells}
 use Rattle.format.specs.Payload.{payloadBytes}
 use Rattle.format.specs.RecordLaws.{Fits}
 
--- ---- bytes, and what is read of them
-abbrev pub Bytes : List ℕ → Type 0
-Bytes bs = all (λ b. ltb b 256) bs ≡ true
-
+-- ---- what is read of bytes
 pub cut-bytes : (n : ℕ) (bs : List ℕ) → Bytes bs → Gives (λ y. (length (y .0) ≡ n) × Bytes (y .0) × Bytes (y .1)) (cut n bs)
-unfolding cut
-cut-bytes n bs b =
-    gives-ensure (leb n (length bs)) (λ e.
-    gives (length-take-le n bs (leb-true n (length bs) e), all-take (λ x. ltb x 256) n bs b, all-drop (λ x. ltb x 256) n bs b))
+cut-bytes n bs b = gives-weaken (cut-spells n bs b) (λ y p. (p .0, p .2, p .3))
 
 pub le-bytes : (k : ℕ) (bs : List ℕ) → Bytes bs → Gives (λ y. (y .0 < 256 ^ k) × Bytes (y .1)) (readLe k bs)
-unfolding readLe
-le-bytes k bs b = gives-bind (cut-bytes k bs b) (λ y p. gives (rw (p .0) at (number-below 256 (y .0) (p .1)), p .2))
+le-bytes k bs b = gives-weaken (readLe-spells k bs b) (λ y p. (ltb-true (y .0) (256 ^ k) (p .fits), p .rest))
 
-pub hash-bytes : (bs : List ℕ) → Bytes bs → Gives (λ y. (ltb (y .0) (2 ^ 256) ≡ true) × Bytes (y .1)) (readHash bs)
-unfolding readHash
-hash-bytes bs b =
-    gives-bind (cut-bytes 32 bs b) (λ y p.
-    let l : length (reverse (y .0)) ≡ 32 = length-reverse (y .0) ∙ p .0 in
-    gives (lt-ltb _ (2 ^ 256) (rw l at (number-below 256 (reverse (y .0)) (all-reverse (λ x. ltb x 256) (y .0) (p .1)))), p .2))
+hash-bytes : (bs : List ℕ) → Bytes bs → Gives (λ y. (ltb (y .0) (2 ^ 256) ≡ true) × Bytes (y .1)) (readHash bs)
+hash-bytes bs b = gives-weaken (readHash-spells bs b) (λ y p. (p .fits, p .rest))
 
 -- an insert's fields before its cell
 fitsHead : Entry → Bool
@@ -66,7 +54,7 @@ insert-bytes w bs b =
     gives-bind (cut-bytes (n .0) (n .1) (t .1)) (λ c u.
     gives (rw (p .0, lt-ltb (i .0) (2 ^ 64) (q .0), lt-ltb (r .0) (2 ^ 32) (s .0)) (u .1), u .2))))))
 
-pub list-bytes : {A : Type 0} (f : List ℕ → Option (A × List ℕ)) (ok : A → Bool) → ((bs : List ℕ) → Bytes bs → Gives (λ y. (ok (y .0) ≡ true) × Bytes (y .1)) (f bs))
+list-bytes : {A : Type 0} (f : List ℕ → Option (A × List ℕ)) (ok : A → Bool) → ((bs : List ℕ) → Bytes bs → Gives (λ y. (ok (y .0) ≡ true) × Bytes (y .1)) (f bs))
     → (n : ℕ) (bs : List ℕ) → Bytes bs → Gives (λ y. (length (y .0) ≡ n) × (all ok (y .0) ≡ true) × Bytes (y .1)) (readList f n bs)
 unfolding readList all
 list-bytes f ok h zero bs b = gives (refl, refl, b)
@@ -108,21 +96,12 @@ short-cells (e ∷ es) a h =
     let here = and-both (fitsHead e) (leb (length (e .cell)) 65535) (and-left (fitsHead e) (all fitsHead es) h) (le-leb (length (e .cell)) 65535 (ltb-false 65535 (length (e .cell)) (f .0))) in
     and-both (fitsItem e) (all fitsItem es) here (short-cells es (f .1) (and-right (fitsHead e) (all fitsHead es) h))
 
-length-insert : (e : Entry) → length (insertBytes e) ≡ 46 + length (e .cell)
-unfolding insertBytes
-length-insert e = simp (length-append, length-hashBytes, length-digits) (omega arith)
-
 inserts-short : (es : List Entry) → any (λ e. ltb 65535 (length (e .cell))) es ≡ false → length (flat insertBytes es) ≤ 65581 * length es
 unfolding any flat
 inserts-short [] a = omega arith
 inserts-short (e ∷ es) a =
     let f = or-false (ltb 65535 (length (e .cell))) (any (λ x. ltb 65535 (length (x .cell))) es) a in
     simp length-append (omega (arith, length-insert e, ltb-false 65535 (length (e .cell)) (f .0), inserts-short es (f .1)))
-
-hashes-long : (hs : List ℕ) → length (flat hashBytes hs) ≡ 32 * length hs
-unfolding flat
-hashes-long [] = refl
-hashes-long (h ∷ hs) = simp length-append (omega (arith, length-hashBytes h, hashes-long hs))
 
 pub delta-fits : (id inserts removes : ℕ) (d : Delta) → id < 2 ^ 64 → Read inserts removes d → tooLong d ≡ false → Fits id d
 unfolding tooLong payloadBytes itemBytes
@@ -137,7 +116,7 @@ delta-fits id inserts removes d i r t =
       removes = r .hashes;
       few-inserts = omega arith;
       few-removes = omega arith;
-      near = simp (length-append, length-digits) (omega (arith, inserts-short (d .inserts) (a .0), hashes-long (d .removes)));
+      near = simp (length-append, length-digits) (omega (arith, inserts-short (d .inserts) (a .0), length-hashes (d .removes)));
     }
 
 -- ---- a delta that is accepted

@@ -10,82 +10,36 @@ use native.Mathlib.Omega.{arith}
 use native.Mathlib.Decide.{decLt, ℕ-discrete}
 use lib.ListN.{length, take, drop, length-drop}
 use lib.Seq.{drop-drop}
-use lib.Dec.{leb, ltb, eqb}
-use borrow.Author.Tests.{le-leb, leb-true, le-ltb}
-use Rattle.base.specs.Logic.{eqbList, all, any, elem, max32}
-use Rattle.base.specs.Bytes.{unle}
-use Rattle.base.specs.Laws.{and-left, and-right}
-use Rattle.base.specs.NumberLaws.{number-below}
-use Rattle.base.specs.ListLaws.{fails-not, all-take, all-drop}
+use lib.Dec.{ltb, eqb}
+use Rattle.base.specs.Logic.{eqbList, any, elem}
+use Rattle.base.specs.ListLaws.{fails-not, all-drop}
 use Rattle.base.specs.Answers.{refused, taken, either, numberOf, answerNumber}
 use Rattle.base.specs.OutcomeLaws.{other-number, taken-refused, ends-here, ends-later, never-ends, Refuses, refuses-none, refuses-step}
 use Rattle.base.specs.declared.Refusal.{Refusal}
 use Rattle.base.specs.declared.Refusal.the-variants.{Present, NurseryFull, ShortRecord, Mismatch, Damaged}
 use Rattle.base.specs.declared.Answer.{Answer}
 use Rattle.base.specs.declared.Answer.the-variants.{Taken, Refused}
-use Rattle.slices.specs.Laws.{length-part, eqbList-true, eqbList-false}
-use Rattle.cell_nursery.specs.Entries.{Entry, State, empty}
-use Rattle.cell_nursery.specs.Items.{Delta, readHash, readInsert, deltaOf}
+use Rattle.slices.specs.Laws.{eqbList-true, eqbList-false}
+use Rattle.cell_nursery.specs.Entries.{State, empty}
+use Rattle.cell_nursery.specs.Items.{Delta}
 use Rattle.cell_nursery.specs.Delta.{Room, tooLong, present, full, stateAfter, applyDelta}
 use Rattle.cell_nursery.specs.Layout.{roomOf}
-use Rattle.cell_nursery.specs.ItemLaws.{delta-counts}
+use Rattle.cell_nursery.specs.SpellLaws.{fits-short}
 use Rattle.cell_nursery.specs.RefusalLaws.{delta-numbers}
 use Rattle.base.specs.AnswerLaws.{not-refused, exactly}
 use Rattle.format.specs.Record.{Decoding, decode}
-use Rattle.format.specs.RefusalLaws.{stated, payload, Whole, Matches, payload-some, decode-short, decode-mismatch, decode-taken, decode-numbers}
+use Rattle.format.specs.RefusalLaws.{stated, Whole, Matches, decode-short, decode-mismatch, decode-taken, decode-numbers}
 use Rattle.format.specs.TakenLaws.{taken-lent}
+use Rattle.format.specs.ExactLaws.{parsed}
 use Rattle.journal.specs.Journal.{End, passRecord, scan, damages, damaged, applyRecord, readJournal, ReadIn, notRead, readOut, readCall}
 use Rattle.journal.specs.ReadLaws.{RecordRefused, record-refused, record-taken, passed-refused, passed-taken, recordsIn, records-taken, records-refused, Stopped, at-end, at-record, records-ends, damages-other, read-damaged, read-undamaged}
-use Rattle.base.specs.MaybeLaws.{Gives, gives, gives-bind, given}
-use Rattle.journal_laws.specs.DeltaLaws.{Bytes, cut-bytes, le-bytes, hash-bytes, list-bytes}
+use Rattle.base.specs.SpellLaws.{Bytes}
 
 -- ---- a record's delta is never too long: a cell's length has two bytes, a list's four
-insert-short : (bs : List ℕ) → Bytes bs → Gives (λ y. (leb (length (y .0 .cell)) 65535 ≡ true) × Bytes (y .1)) (readInsert 2 bs)
-unfolding readInsert
-insert-short bs b =
-    gives-bind (hash-bytes bs b) (λ h p.
-    gives-bind (le-bytes 8 (h .1) (p .1)) (λ i q.
-    gives-bind (le-bytes 4 (i .1) (q .1)) (λ r s.
-    gives-bind (le-bytes 2 (r .1) (s .1)) (λ n t.
-    gives-bind (cut-bytes (n .0) (n .1) (t .1)) (λ c u.
-    gives (le-leb (length (c .0)) 65535 (omega (arith, t .0, u .0)), u .2))))))
-
-delta-short : (inserts removes : ℕ) (items : List ℕ) (d : Delta) → Bytes items → deltaOf 2 inserts removes items ≡ some d → all (λ e. leb (length (e .cell)) 65535) (d .inserts) ≡ true
-unfolding deltaOf
-delta-short inserts removes items d b e =
-    given {P = λ x. all (λ y. leb (length (y .cell)) 65535) (x .inserts) ≡ true}
-    (gives-bind (list-bytes (readInsert 2) (λ y. leb (length (y .cell)) 65535) insert-short inserts items b) (λ y p.
-    gives-bind (list-bytes readHash (λ h. ltb h (2 ^ 256)) hash-bytes removes (y .1) (p .2)) (λ z q. gives (p .1)))) e
-
-none-long : (es : List Entry) → all (λ e. leb (length (e .cell)) 65535) es ≡ true → any (λ e. ltb 65535 (length (e .cell))) es ≡ false
-unfolding all any
-none-long [] a = refl
-none-long (e ∷ es) a =
-    let here = and-left (leb (length (e .cell)) 65535) (all (λ x. leb (length (x .cell)) 65535) es) a in
-    let rest = and-right (leb (length (e .cell)) 65535) (all (λ x. leb (length (x .cell)) 65535) es) a in
-    rw (le-ltb 65535 (length (e .cell)) (leb-true (length (e .cell)) 65535 here)) (none-long es rest)
-
--- four bytes spell at most 2 ^ 32 - 1
-few : (at : ℕ) (bs : List ℕ) → Bytes bs → at + 4 ≤ length bs → unle (take 4 (drop at bs)) ≤ max32
-few at bs b h =
-    let l = length-part bs at 4 h in
-    let n = rw l at (number-below 256 (take 4 (drop at bs)) (all-take (λ x. ltb x 256) 4 (drop at bs) (all-drop (λ x. ltb x 256) at bs b))) in
-    omega arith
-
 pub record-short : (hash : List ℕ → List ℕ) (bs : List ℕ) (x : Decoding) → Bytes bs → decode hash bs ≡ taken x → tooLong (x .delta) ≡ false
-unfolding tooLong
 record-short hash bs x b e =
-    let (whole, matches, (p, i, same)) = decode-taken hash bs x .0 e in
-    let (long, items, id) = payload-some (payload bs) p .0 i in
-    let bytes : Bytes (payload bs) = all-take (λ y. ltb y 256) (stated bs) (drop 40 bs) (all-drop (λ y. ltb y 256) 40 bs b) in
-    let counts = delta-counts 2 (unle (take 4 (drop 8 (payload bs)))) (unle (take 4 (drop 12 (payload bs)))) (drop 16 (payload bs)) (p .delta) items in
-    let cells = delta-short _ _ (drop 16 (payload bs)) (p .delta) (all-drop (λ y. ltb y 256) 16 (payload bs) bytes) items in
-    rw (
-      same,
-      none-long (p .delta .inserts) cells,
-      le-ltb max32 (length (p .delta .inserts)) (omega (arith, counts .0, few 8 (payload bs) bytes (omega arith))),
-      le-ltb max32 (length (p .delta .removes)) (omega (arith, counts .1, few 12 (payload bs) bytes (omega arith))),
-    )
+    let fits = parsed hash bs x b (decode-taken hash bs x .0 e .0) .fits in
+    fits-short (x .delta) (fits .inserts) (fits .few-inserts) (fits .few-removes)
 
 -- ---- records that are taken one after another
 module _ (hash : List ℕ → List ℕ) (bs : List ℕ) where
@@ -310,7 +264,7 @@ module _ (hash : List ℕ → List ℕ) (bs es ws cs : List ℕ) where
         one (inl e) = e
         one (inr (d, i, e)) = absurd (false≢true (sym other ∙ delta-numbers room sofar (d .delta) q e))
 
-    of-delta : (q : Refusal) {Q : Decoding → Type 0} → elem (numberOf q) (16 ∷ 17 ∷ 18 ∷ 19 ∷ []) ≡ false
+    of-delta : (q : Refusal) {Q : Decoding → Type 0} → elem (numberOf q) (16 ∷ 17 ∷ 18 ∷ 19 ∷ 22 ∷ []) ≡ false
         → ((d : Decoding) → decode hash rest ≡ taken d → (applyDelta room sofar (d .delta) ≡ refused q) ↔ Q d) → (ended ≡ Refused q) ↔ ((d : Decoding) × (decode hash rest ≡ taken d) × Q d)
     of-delta q {Q} other test =
         exactly (exactly (ends-refused hash room bs q) ((λ (l, s). (l, one s)), λ (l, (d, i, e)). (l, inr (d, i, test d i .1 e))))

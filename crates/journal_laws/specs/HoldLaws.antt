@@ -23,7 +23,8 @@ use Rattle.cell_nursery.specs.HashLaws.{U64}
 use Rattle.cell_nursery.specs.LayoutLaws.{Held, WellFormed, held, holds-laid, number-entries}
 use Rattle.cell_nursery.specs.EntryLaws.{well-empty, well-after, well-drained, InRoom, room-empty, room-after}
 use Rattle.cell_nursery.specs.Calls.{Changed, DrainedOut, laid, laidOut, onState, newCall, lengthWidth, deltaCall, drainedOut, drainCall}
-use Rattle.journal_laws.specs.DeltaLaws.{Bytes, delta-read, delta-fits, taken-accepted}
+use Rattle.base.specs.SpellLaws.{Bytes}
+use Rattle.journal_laws.specs.DeltaLaws.{delta-read, delta-fits, taken-accepted}
 
 -- the record and the tables that a call leaves hold a state
 abbrev pub Leaves : Changed → Type 0

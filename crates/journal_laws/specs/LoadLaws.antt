@@ -21,7 +21,8 @@ use Rattle.format.specs.Record.{Decoding, decode}
 use Rattle.format.specs.TakenLaws.{taken-lent}
 use Rattle.journal.specs.Journal.{applyRecord, readJournal, ReadIn, readOut, readCall}
 use Rattle.journal.specs.ReadLaws.{record-taken, records-ends, read-taken}
-use Rattle.journal_laws.specs.DeltaLaws.{Bytes, Read, delta-read, delta-fits, taken-accepted}
+use Rattle.base.specs.SpellLaws.{Bytes}
+use Rattle.journal_laws.specs.DeltaLaws.{Read, delta-read, delta-fits, taken-accepted}
 
 -- the delta of a record was read from bytes
 pub decode-read : (hash : List ℕ → List ℕ) (bs : List ℕ) (x : Decoding) → Bytes bs → decode hash bs ≡ taken x → Read (x .stats .«insert_ops») (x .stats .«remove_ops») (x .delta)

@@ -13,7 +13,6 @@ use lib.Seq.{take-append-add, take-append-le, drop-at, length-take-le}
 use lib.Dec.{leb, eqb}
 use borrow.Author.Tests.{le-leb, lt-leb, eq-eqb, ne-eqb}
 use Rattle.base.specs.Logic.{pick, flat, fold}
-use Rattle.base.specs.Laws.{length-digits}
 use Rattle.base.specs.Answers.{refused, taken}
 use Rattle.base.specs.declared.Refusal.the-variants.{ShortRecord}
 use Rattle.base.specs.declared.Answer.{Answer}
@@ -25,8 +24,8 @@ use Rattle.cell_nursery.specs.WaitLaws.{Waits, none-gone, waits-after}
 use Rattle.cell_nursery.specs.LayoutLaws.{WellFormed}
 use Rattle.cell_nursery.specs.EntryLaws.{well-after, InRoom, room-after}
 use Rattle.format.specs.Payload.{payloadBytes}
-use Rattle.format.specs.Record.{statsOf, hashed, recordBytes}
-use Rattle.format.specs.RecordLaws.{Fits, decode-whole, decode-cut}
+use Rattle.format.specs.Record.{statsOf, recordBytes}
+use Rattle.format.specs.RecordLaws.{length-record, Fits, decode-whole, decode-cut}
 use Rattle.journal.specs.Journal.{End, Step, recordsFrom, passRecord, scan, damages, damaged, applyRecord, readJournal}
 use Rattle.journal.specs.ReadLaws.{record-refused, record-taken, passed-refused, passed-taken, recordsIn, records-taken, records-refused}
 use Rattle.journal_laws.specs.DeltaLaws.{Accepted, accepted-taken}
@@ -101,8 +100,7 @@ module _ (hash : List ℕ → List ℕ) {A : Type 0} (id : A → ℕ) (delta : A
 
   module _ (long : (b : List ℕ) → length (hash b) ≡ 32) where
     length-bytes : (x : A) → length (bytesOf x) ≡ 40 + length (payloadBytes (id x) (delta x))
-    unfolding recordBytes hashed
-    length-bytes x = simp (length-append, long, length-digits) (omega arith)
+    length-bytes x = length-record hash long (id x) (delta x)
 
     -- ---- their records, each by a step
     module _ {S : Type 0} (step : Step S) (after : A → S → S) where

@@ -1,4 +1,5 @@
-// Decoding the record that bytes start with: its length, its hash and its payload are judged in this order. Of the bytes only the hash is copied.
+// Decoding the record that bytes start with: its length, its hash, its payload and what the payload has after the last item are judged in this order.
+// Of the bytes only the hash is copied. Parsing doesn't judge the last of these: that is how records were read before they were exact.
 use base::Answer;
 use base::Refusal;
 use byte_numbers::read_le32;
@@ -18,9 +19,10 @@ ghost use lib.ListN.{length, take, drop};
 ghost use Rattle.base.specs.Logic.{eqbList};
 ghost use Rattle.base.specs.Answers.{refused};
 ghost use Rattle.blake3.specs.Spec.{hash};
-ghost use Rattle.format.specs.Calls.{decodedOf, decodeCall};
+ghost use Rattle.format.specs.Record.{usedBytes};
+ghost use Rattle.format.specs.Calls.{decodedOf, parseCall, decodeCall};
 ghost use Rattle.format.specs.RefusalLaws.{Whole, Matches};
-ghost use Rattle.record_read.specs.Judged.{payloadCall, Framing};
+ghost use Rattle.record_read.specs.Judged.{payloadCall, exactCall, Framing};
 
 // The length of a whole record's payload, or the refusal by the tests before the hash.
 enum Framed {
@@ -113,9 +115,9 @@ fn frame(s: &[u8]) -> Framed
     Framed::Len(n)
 }
 
-// Decodes the record that s starts with; what follows it is ignored.
-pub fn decode_record(s: &[u8]) -> Decoded
-    ensures { λ r. ⌜ r ≡ decodeCall hash (now (s .entry)) ⌝ }
+// Parses the record that s starts with, whatever its payload has after the last item; what follows it is ignored.
+pub fn parse_record(s: &[u8]) -> Decoded
+    ensures { λ r. ⌜ r ≡ parseCall hash (now (s .entry)) ⌝ }
 {
     let f = frame(s);
     match f {
@@ -129,14 +131,42 @@ pub fn decode_record(s: &[u8]) -> Decoded
     }
 }
 
-// Decodes as decode_record does, where the hash of a whole record is known to be right: it isn't worked out again.
-pub fn decode_record_held(s: &[u8]) -> Decoded
+// Parses as parse_record does, where the hash of a whole record is known to be right: it isn't worked out again.
+pub fn parse_record_held(s: &[u8]) -> Decoded
     requires { ⌜ (Whole (now s) → Matches hash (now s)) ⌝ }
-    ensures { λ r. ⌜ r ≡ decodeCall hash (now (s .entry)) ⌝ }
+    ensures { λ r. ⌜ r ≡ parseCall hash (now (s .entry)) ⌝ }
 {
     let f = frame(s);
     match f {
         Framed::Refused(r) => refusal(r),
         Framed::Len(n) => decode_payload(s, n),
     }
+}
+
+// A record that was parsed, refused where bytes are left over.
+fn exact(d: Decoded) -> Decoded
+    requires { ⌜ usedBytes (d .stats) ≤ d .stats .«payload_bytes» ⌝ }
+    ensures { λ r. ⌜ r ≡ exactCall d ⌝ }
+{
+    if d.stats.metadata_bytes + d.stats.cell_bytes < d.stats.payload_bytes {
+        return refusal(Refusal::Leftover);
+    }
+    d
+}
+
+// Decodes the record that s starts with, whose payload ends with its last item; what follows it is ignored.
+pub fn decode_record(s: &[u8]) -> Decoded
+    ensures { λ r. ⌜ r ≡ decodeCall hash (now (s .entry)) ⌝ }
+{
+    let d = parse_record(s);
+    exact(d)
+}
+
+// Decodes as decode_record does, where the hash of a whole record is known to be right.
+pub fn decode_record_held(s: &[u8]) -> Decoded
+    requires { ⌜ (Whole (now s) → Matches hash (now s)) ⌝ }
+    ensures { λ r. ⌜ r ≡ decodeCall hash (now (s .entry)) ⌝ }
+{
+    let d = parse_record_held(s);
+    exact(d)
 }

@@ -1,7 +1,7 @@
 -- Items as a record has them: what is read of bytes is written as it stood; and bytes laid end to end.
 -- Assumes nothing.
 use mathlib.Core.Path.{_≡_, refl, sym, ap, _∙_}
-use mathlib.Core.Bool.{true, false}
+use mathlib.Core.Bool.{false}
 use mathlib.Core.List.{List, [], _∷_, _++_, append-assoc, reverse, reverse-reverse}
 use Prim.Native.Nat.{ℕ, zero, suc, _+_, _*_, _≤_}
 use native.Mathlib.Nat.{mul-suc}
@@ -12,15 +12,17 @@ use lib.Dec.{ltb}
 use borrow.Author.Tests.{ltb-false}
 use Rattle.base.specs.Logic.{any, flat, sumOf, overlay}
 use Rattle.base.specs.Bytes.{digits, number}
-use Rattle.base.specs.Laws.{length-digits, digits-number}
+use Rattle.base.specs.Laws.{digits-number}
 use Rattle.base.specs.ListLaws.{or-false}
 use Rattle.slices.specs.Laws.{length-part, paste-append, paste-prepend, paste-start, part-paste}
 use Rattle.slices.specs.NumberLaws.{digits-unle}
 use Rattle.cell_nursery.specs.Entries.{Entry, cellBytes, hashBytes, insertBytes}
-use Rattle.cell_nursery.specs.ItemLaws.{length-hashBytes}
+use Rattle.cell_nursery.specs.ItemLaws as items
+use Rattle.cell_nursery.specs.ItemLaws.{length-inserts}
 use Rattle.slices.specs.ByteLaws.{all-reverse, U8, u8-drop, u8-part}
-use Rattle.delta_items.specs.Walk.{hashIn, cellLen, cellIn, insertIn, insertLen, insertsIn, insertsFit, longCell, hashesIn}
-use Rattle.delta_items.specs.WalkLaws.{cell-length, fit-head, fit-tail}
+use Rattle.delta_items.specs.Walk.{hashIn, cellLen, cellIn, insertIn, insertLen, insertsIn, longCell, hashesIn}
+use Rattle.delta_items.specs.WalkLaws.{cell-length}
+use Rattle.delta_items.specs.WalkLaws.{length-inserts as counted}
 use Rattle.record_write.specs.Laid.{laidAt}
 
 -- ---- items
@@ -57,24 +59,11 @@ module _ (w : ℕ) (bs : List ℕ) (whole : insertLen w bs ≤ length bs) where
       )
 
   pub length-insert : length (insertBytes (insertIn w bs)) ≡ 46 + cellLen w bs
-  unfolding insertBytes insertIn
-  length-insert = simp (length-append, length-digits, length-hashBytes, cell-length w bs whole)
+  unfolding insertIn
+  length-insert = items.length-insert (insertIn w bs) ∙ ap (λ (k : ℕ). 46 + k) (cell-length w bs whole)
 
-pub length-insert-list : (w n : ℕ) (bs : List ℕ) → insertsFit w n bs ≡ true → length (flat insertBytes (insertsIn w n bs)) ≡ 46 * n + cellBytes (insertsIn w n bs)
-unfolding flat insertsIn insertIn cellBytes sumOf
-length-insert-list w zero bs f = refl
-length-insert-list w (suc n) bs f =
-    let h = fit-head w n bs f in
-    let r = length-insert-list w n (drop (insertLen w bs) bs) (fit-tail w n bs f) in
-    let l = length-insert w bs h in
-    let a = length-append (insertBytes (insertIn w bs)) (flat insertBytes (insertsIn w n (drop (insertLen w bs) bs))) in
-    omega (arith, a, l, r, mul-suc 46 n, cell-length w bs h)
-
-pub length-hash-list : (hs : List ℕ) → length (flat hashBytes hs) ≡ 32 * length hs
-unfolding flat
-length-hash-list [] = refl
-length-hash-list (h ∷ hs) =
-    rw (length-append (hashBytes h) (flat hashBytes hs), length-hashBytes h, length-hash-list hs) (omega (arith, mul-suc 32 (length hs)))
+pub length-insert-list : (w n : ℕ) (bs : List ℕ) → length (flat insertBytes (insertsIn w n bs)) ≡ 46 * n + cellBytes (insertsIn w n bs)
+length-insert-list w n bs = length-inserts (insertsIn w n bs) ∙ ap (λ (k : ℕ). 46 * k + cellBytes (insertsIn w n bs)) (counted w n bs)
 
 -- cells that are each within the limit
 pub few-cells : (es : List Entry) → longCell es ≡ false → cellBytes es ≤ 65535 * length es

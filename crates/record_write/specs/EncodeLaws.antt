@@ -18,13 +18,14 @@ use Rattle.cell_nursery.specs.Items.{Delta, itemBytes}
 use Rattle.cell_nursery.specs.Delta.{tooLong}
 use Rattle.cell_nursery.specs.Calls.{lengthWidth}
 use Rattle.delta_items.specs.Walk.{insertsIn, insertsLen, longCell, hashesIn, itemsFit, deltaIn}
-use Rattle.delta_items.specs.WalkLaws.{delta-whole, delta-none, fit-inserts, fit-removes, length-inserts, length-hashes, too-long}
+use Rattle.delta_items.specs.WalkLaws.{delta-whole, delta-none, fit-removes, length-inserts, length-hashes, too-long}
 use Rattle.format.specs.Payload.{payloadBytes}
-use Rattle.format.specs.Record.{hashed, recordBytes, statsOf, encode}
+use Rattle.format.specs.Record.{hashed, sealed, recordBytes, statsOf, encode}
+use Rattle.format.specs.RecordLaws as format
 use Rattle.format.specs.Calls.{effect, encodedOut, encodeCall}
 use Rattle.record_write.specs.Laid.{laidAt, headBytes, refusedWith}
 use Rattle.slices.specs.ByteLaws.{U8, u8-drop}
-use Rattle.record_write.specs.ByteLaws.{hashes-bytes, length-insert-list, length-hash-list, few-cells, laid-three, laid-front, laid-part}
+use Rattle.record_write.specs.ByteLaws.{hashes-bytes, length-insert-list, few-cells, laid-three, laid-front, laid-part}
 
 -- a cell's length has bytes
 width-some : (wide : Bool) → 0 < lengthWidth wide
@@ -59,12 +60,9 @@ payloadLen w n m items = 16 + 46 * n + 32 * m + cellBytes (insertsIn w n items)
 
 module _ (id w n m : ℕ) (items : List ℕ) (fit : itemsFit w n m items ≡ true) where
   pub length-payload : length (payloadBytes id (deltaIn w n m items)) ≡ payloadLen w n m items
-  unfolding payloadBytes itemBytes deltaIn
+  unfolding deltaIn
   length-payload =
-      let i = length-insert-list w n items (fit-inserts w n m items fit) in
-      let r = length-hash-list (hashesIn m (drop (insertsLen w n items) items)) in
-      let k = length-hashes m (drop (insertsLen w n items) items) in
-      simp (length-append, length-digits, i, r, k) (omega arith)
+      rw (format.length-payload id (deltaIn w n m items), length-inserts w n items, length-hashes m (drop (insertsLen w n items) items))
 
   module _ (hash : List ℕ → List ℕ) (long : (b : List ℕ) → length (hash b) ≡ 32) where
     pub length-hashed : length (hashed (payloadBytes id (deltaIn w n m items))) ≡ 8 + payloadLen w n m items
@@ -72,10 +70,7 @@ module _ (id w n m : ℕ) (items : List ℕ) (fit : itemsFit w n m items ≡ tru
     length-hashed = simp (length-append, length-digits, length-payload)
 
     pub length-record : length (recordBytes hash id (deltaIn w n m items)) ≡ 40 + payloadLen w n m items
-    unfolding recordBytes
-    length-record =
-        let b = hashed (payloadBytes id (deltaIn w n m items)) in
-        length-append (hash b) b ∙ omega (arith, long b, length-hashed)
+    length-record = format.length-record hash long id (deltaIn w n m items) ∙ ap (λ (k : ℕ). 40 + k) length-payload
 
 -- ---- the answers
 
@@ -146,10 +141,10 @@ module _ (id w n m end payload : ℕ) (items out : List ℕ) (b : Body w n m end
   head-room = omega (arith, b .stated, b .fits)
 
   pub inserts-room : 56 + length (flat insertBytes (insertsIn w n items)) ≤ length out
-  inserts-room = omega (arith, b .stated, b .fits, length-insert-list w n items (fit-inserts w n m items (b .fit)))
+  inserts-room = omega (arith, b .stated, b .fits, length-insert-list w n items)
 
   pub length-inserts-part : length (flat insertBytes (insertsIn w n items)) ≡ 46 * n + cellBytes (insertsIn w n items)
-  length-inserts-part = length-insert-list w n items (fit-inserts w n m items (b .fit))
+  length-inserts-part = length-insert-list w n items
 
   pub removes-inside : end + 32 * m ≤ length items
   removes-inside = omega (arith, fit-removes w n m items (b .fit), b .place)
@@ -183,7 +178,7 @@ module _ (id w n m end payload : ℕ) (items out : List ℕ) (b : Body w n m end
 pub record-laid : (hash : List ℕ → List ℕ) → ((b : List ℕ) → length (hash b) ≡ 32) → (id : ℕ) (d : Delta) (out two : List ℕ) (k : ℕ)
     → length (hashed (payloadBytes id d)) ≡ k → 32 ≤ length out → two ≡ laidAt out 32 (hashed (payloadBytes id d))
     → laidAt two 0 (hash (take k (drop 32 two))) ≡ overlay (recordBytes hash id d) out
-unfolding recordBytes
+unfolding recordBytes sealed
 record-laid hash long id d out two k l h e =
     let b = hashed (payloadBytes id d) in
     rw (e, laid-part out 32 b k l h) (laid-front out (hash b) b (long b) h)

@@ -22,7 +22,7 @@ use Rattle.cell_nursery.specs.HashLaws.{U64}
 use Rattle.cell_nursery.specs.Calls.{lengthWidth, onState, laid, laidOut, newCall, deltaCall, drainedOut, drainCall, foundOf, lookupCall, cellAt, dataOf, dataCall, listingCall}
 use Rattle.state_words.specs.Words.{nurseryOf, nurseryWords, oneWord, writtenSaid, Unchanged, left}
 use Rattle.state_words.specs.WordLaws.{nursery-words-back}
-use Rattle.journal_laws.specs.DeltaLaws.{Bytes}
+use Rattle.base.specs.SpellLaws.{Bytes}
 use Rattle.journal_laws.specs.HoldLaws.{new-holds, delta-holds, drain-holds}
 use Rattle.word_calls.specs.NurserySaid.{flag, committedSaid, emptySaid, commitSaid, drainedSaid, drainSaid, foundSaid, idxSaid, placedSaid, dataSaid, listingSaid}
 

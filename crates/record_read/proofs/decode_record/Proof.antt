@@ -1,75 +1,24 @@
--- `record_read::decode_record`. The tests before the hash say what is refused, or the payload's length; the hash's test by its laws.
+-- `record_read::decode_record`. What was parsed, judged by what it has left over.
 -- Assumes nothing.
-use mathlib.Core.Path.{sym, _∙_}
-use mathlib.Core.List.{List}
-use Prim.Native.Nat.{ℕ}
-use native.Mathlib.Omega.{arith}
+use mathlib.Core.Path.{ap, _∙_}
 use borrow.Author.Needs.{needs}
-use borrow.Author.Tests.{not-true, not-false}
+use Rattle.slices.specs.ByteLaws.{u8-bytes}
 use Rattle.blake3.specs.Spec.{hash}
-use Rattle.record_read.specs.DecodeLaws.{decode-mismatch, decode-payload}
+use Rattle.record_read.specs.Judged.{exactCall}
+use Rattle.record_read.specs.DecodeLaws.{used-inside, exact-parsed}
 use Rattle.record_read.proofs.decode_record.Statement.{statement}
 use Rattle.record_read.proofs.decode_record.Tie as tie
 
-frame-requires : tie.Need-frame-requires
-frame-requires c κs = search needs
+parse-record-requires : tie.Need-parse-record-requires
+parse-record-requires c κs = search needs
 
-enum-known-f : tie.Need-enum-known-f
-enum-known-f c = search needs
-
-refusal-requires : tie.Need-refusal-requires
-refusal-requires c κs = search needs
-
-enum-known-f-2 : tie.Need-enum-known-f-2
-enum-known-f-2 c = search needs
-
-hash-matches-requires : tie.Need-hash-matches-requires
-hash-matches-requires c κs =
-    let x = c .before .f2 .given in
-    let f = rw (x .1) at (c .before .before .before .frame .ensures) in
-    omega (arith, f .0, f .1 .1)
-
-refusal-requires-2 : tie.Need-refusal-requires-2
-refusal-requires-2 c κs = search needs
+exact-requires : tie.Need-exact-requires
+exact-requires c κs =
+    let s = c .before .before .args .s .now in
+    rw (c .parse-record .ensures) (used-inside hash s (u8-bytes s (λ i. c .before .shared-slice-known .given i .fits)))
 
 returns : tie.Need-returns
-returns c =
-    let s : List ℕ = c .before .before .before .before .before .before .before .before .args .s .now in
-    let x = c .before .before .before .before .f2 .given in
-    let f = rw (x .1) at (c .before .before .before .before .before .before .frame .ensures) in
-    let m = sym (c .before .before .hash-matches .ensures) ∙ not-true _ (c .before .if1 .taken) in
-    c .refusal2 .ensures ∙ sym (decode-mismatch hash s (x .0 .0) f m)
-
-decode-payload-requires : tie.Need-decode-payload-requires
-decode-payload-requires c κs =
-    let x = c .before .before .before .f2 .given in
-    let f = rw (x .1) at (c .before .before .before .before .before .frame .ensures) in
-    omega (arith, f .0, f .1 .1)
-
-returns-2 : tie.Need-returns-2
-returns-2 c =
-    let f = rw (c .before .before .f .given .1) at (c .before .before .before .before .frame .ensures) in
-    c .refusal .ensures ∙ sym (f hash)
-
-returns-3 : tie.Need-returns-3
-returns-3 c =
-    let s : List ℕ = c .before .before .before .before .before .before .before .before .args .s .now in
-    let x = c .before .before .before .before .f2 .given in
-    let f = rw (x .1) at (c .before .before .before .before .before .before .frame .ensures) in
-    let m = sym (c .before .before .hash-matches .ensures) ∙ not-false _ (c .before .if1 .left) in
-    c .decode-payload .ensures ∙ sym (decode-payload hash s (x .0 .0) f m)
+returns c = c .exact .ensures ∙ ap exactCall (c .before .parse-record .ensures) ∙ exact-parsed hash (c .before .before .before .args .s .now)
 
 pub decode-record-spec : {M : Type 1} → statement M
-decode-record-spec =
-    tie.close
-    (tie.spec
-    frame-requires
-    enum-known-f
-    refusal-requires
-    enum-known-f-2
-    hash-matches-requires
-    refusal-requires-2
-    returns
-    decode-payload-requires
-    returns-2
-    returns-3)
+decode-record-spec = tie.close (tie.spec parse-record-requires exact-requires returns)

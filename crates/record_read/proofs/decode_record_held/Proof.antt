@@ -1,51 +1,24 @@
--- `record_read::decode_record_held`. As `decode_record`, with the hash's fact in the place of its test.
+-- `record_read::decode_record_held`. What was parsed, judged by what it has left over.
 -- Assumes nothing.
-use mathlib.Core.Path.{sym, _∙_}
-use native.Mathlib.Omega.{arith}
+use mathlib.Core.Path.{ap, _∙_}
 use borrow.Author.Needs.{needs}
+use Rattle.slices.specs.ByteLaws.{u8-bytes}
 use Rattle.blake3.specs.Spec.{hash}
-use Rattle.record_read.specs.DecodeLaws.{decode-held}
+use Rattle.record_read.specs.Judged.{exactCall}
+use Rattle.record_read.specs.DecodeLaws.{used-inside, exact-parsed}
 use Rattle.record_read.proofs.decode_record_held.Statement.{statement}
 use Rattle.record_read.proofs.decode_record_held.Tie as tie
 
-frame-requires : tie.Need-frame-requires
-frame-requires c κs = search needs
+parse-record-held-requires : tie.Need-parse-record-held-requires
+parse-record-held-requires c κs = search needs
 
-enum-known-f : tie.Need-enum-known-f
-enum-known-f c = search needs
-
-refusal-requires : tie.Need-refusal-requires
-refusal-requires c κs = search needs
-
-enum-known-f-2 : tie.Need-enum-known-f-2
-enum-known-f-2 c = search needs
-
-decode-payload-requires : tie.Need-decode-payload-requires
-decode-payload-requires c κs =
-    let x = c .before .f2 .given in
-    let f = rw (x .1) at (c .before .before .before .frame .ensures) in
-    omega (arith, f .0, f .1 .1)
+exact-requires : tie.Need-exact-requires
+exact-requires c κs =
+    let s = c .before .before .args .s .now in
+    rw (c .parse-record-held .ensures) (used-inside hash s (u8-bytes s (λ i. c .before .shared-slice-known .given i .fits)))
 
 returns : tie.Need-returns
-returns c =
-    let f = rw (c .before .before .f .given .1) at (c .before .before .before .before .frame .ensures) in
-    c .refusal .ensures ∙ sym (f hash)
-
-returns-2 : tie.Need-returns-2
-returns-2 c =
-    let b = c .before .before .before .before .before .before in
-    let x = c .before .before .f2 .given in
-    let f = rw (x .1) at (c .before .before .before .before .frame .ensures) in
-    c .decode-payload .ensures ∙ sym (decode-held hash (b .args .s .now) (x .0 .0) f (b .pre))
+returns c = c .exact .ensures ∙ ap exactCall (c .before .parse-record-held .ensures) ∙ exact-parsed hash (c .before .before .before .args .s .now)
 
 pub decode-record-held-spec : {M : Type 1} → statement M
-decode-record-held-spec =
-    tie.close
-    (tie.spec
-    frame-requires
-    enum-known-f
-    refusal-requires
-    enum-known-f-2
-    decode-payload-requires
-    returns
-    returns-2)
+decode-record-held-spec = tie.close (tie.spec parse-record-held-requires exact-requires returns)

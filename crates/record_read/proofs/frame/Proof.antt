@@ -4,12 +4,12 @@ use mathlib.Core.List.{List}
 use Prim.Native.Nat.{ℕ}
 use native.Mathlib.Omega.{arith}
 use borrow.Author.Needs.{needs}
-use Rattle.record_read.specs.DecodeLaws.{decode-short, decode-far, decode-cut}
+use Rattle.record_read.specs.DecodeLaws.{parse-short, parse-far, parse-cut}
 use Rattle.record_read.proofs.frame.Statement.{statement}
 use Rattle.record_read.proofs.frame.Tie as tie
 
 returns : tie.Need-returns
-returns c = λ h. decode-short h (c .before .before .args .s .now) (omega arith)
+returns c = λ h. parse-short h (c .before .before .args .s .now) (omega arith)
 
 read-le64-requires : tie.Need-read-le64-requires
 read-le64-requires c κs = search needs
@@ -18,7 +18,7 @@ returns-2 : tie.Need-returns-2
 returns-2 c =
     let s : List ℕ = c .before .before .before .before .args .s .now in
     let e = c .before .read-le64 .ensures in
-    λ h. decode-far h s (omega arith) (omega (arith, e))
+    λ h. parse-far h s (omega arith) (omega (arith, e))
 
 sub-if3 : tie.Need-sub-if3
 sub-if3 c = search needs
@@ -27,7 +27,7 @@ returns-3 : tie.Need-returns-3
 returns-3 c =
     let s : List ℕ = c .before .before .before .before .before .args .s .now in
     let e = c .before .before .read-le64 .ensures in
-    λ h. decode-cut h s (omega arith) (omega (arith, e)) (omega (arith, e))
+    λ h. parse-cut h s (omega arith) (omega (arith, e)) (omega (arith, e))
 
 returns-4 : tie.Need-returns-4
 returns-4 c =
