@@ -1,7 +1,7 @@
 -- What an item of each kind stands for by the tests that the code makes, and what running it gives by what the call gave.
 -- Assumes nothing.
 use mathlib.Core.Path.{_≡_, refl, sym, ap, _∙_}
-use mathlib.Core.Bool.{true, false}
+use mathlib.Core.Bool.{Bool, true, false, _&&_}
 use mathlib.Core.Option.{Option, none, some}
 use mathlib.Core.List.{List}
 use Prim.Native.Nat.{ℕ, zero, suc, _+_, _-_, _*_, _/_, _%_, _≤_, _<_}
@@ -9,8 +9,10 @@ use native.Mathlib.Nat.{mul-suc}
 use native.Mathlib.Omega.{arith}
 use lib.ListN.{length, take, drop, getD, length-drop}
 use lib.Seq.{paste, take-all, drop-drop}
-use borrow.Author.Tests.{le-leb, lt-leb, eq-eqb, ne-eqb}
+use lib.Dec.{eqb}
+use borrow.Author.Tests.{le-leb, lt-leb, eq-eqb, ne-eqb, eqb-true, eqb-false}
 use Rattle.base.specs.Logic.{zeros}
+use Rattle.base.specs.Maybe.{_>>_, ensure}
 use Rattle.base.specs.Bytes.{unle}
 use Rattle.slices.specs.Laws.{part-paste}
 use Rattle.counters.specs.declared.Counters.{Counters}
@@ -22,8 +24,10 @@ use Rattle.cell_nursery.specs.declared.Committed.{Committed}
 use Rattle.cell_nursery.specs.declared.Drained.{Drained}
 use Rattle.cell_nursery.specs.Drain.{promotionDelay}
 use Rattle.cell_nursery.specs.Calls as nursery
-use Rattle.delta_items.specs.Walk.{insertsLen, itemsFit, deltaIn}
-use Rattle.delta_items.specs.WalkLaws.{delta-whole, delta-none, length-inserts, length-hashes}
+use Rattle.delta_items.specs.Walk.{insertsLen, itemsFit, deltaIn, removesAt}
+use Rattle.delta_items.specs.WalkLaws.{delta-whole, delta-none, length-inserts, length-hashes, inserts-cells, fit-inserts, fit-removes, removes-at, removes-past}
+use Rattle.delta_items.specs.declared.End.the-variants.{At, Past}
+use Rattle.format.specs.Record.{statsOf, leftover}
 use Rattle.format.specs.RefusalLaws.{payload-short, payload-past, payload-items}
 use Rattle.node_box.specs.Box.{Call, delta, step, withCounters, withNursery}
 use Rattle.box_items.specs.declared.Ran.{Ran}
@@ -62,6 +66,52 @@ behind body = take (length body - 16) (drop 16 body)
 behind-all : (body : List ℕ) → behind body ≡ drop 16 body
 behind-all body = take-all (length body - 16) (drop 16 body) (omega (arith, length-drop 16 body))
 
+-- ---- whether so many items fill it: they stand there whole, with nothing after them
+unfoldable pub itemsFill : ℕ → ℕ → List ℕ → Bool
+itemsFill inserts removes items = itemsFit 2 inserts removes items && eqb (insertsLen 2 inserts items + 32 * removes) (length items)
+
+-- by where the removes begin
+module _ (x y : ℕ) (items : List ℕ) where
+  pub fill-past : removesAt 2 x y items ≡ Past → itemsFill x y items ≡ false
+  unfolding itemsFill
+  fill-past e = rw (removes-past 2 x y items e)
+
+  module _ (at : ℕ) (e : removesAt 2 x y items ≡ At at) where
+    pub fill-at : itemsFill x y items ≡ eqb (at + 32 * y) (length items)
+    unfolding itemsFill
+    fill-at =
+        let f = removes-at 2 x y items at e in
+        rw (f .0, f .1)
+
+    pub end-at : at + 32 * y ≤ length items
+    end-at =
+        let f = removes-at 2 x y items at e in
+        omega (arith, fit-removes 2 x y items (f .0))
+
+-- ---- a payload of n bytes: 16, its items, and what they leave
+
+-- nothing is left of b bytes exactly where the first a are all
+none-after : (a b : ℕ) → a ≤ b → eqb (b - a) 0 ≡ eqb a b
+none-after a b h = go (eqb a b) refl
+  where
+    go : (r : Bool) → eqb a b ≡ r → eqb (b - a) 0 ≡ r
+    go true e = let q = eqb-true a b e in eq-eqb (b - a) 0 (omega arith)
+    go false e = ne-eqb (b - a) 0 (λ z. eqb-false a b e (omega arith))
+
+module _ (n x y : ℕ) (items : List ℕ) (whole : n ≡ 16 + length items) (fit : itemsFit 2 x y items ≡ true) where
+  pub items-leave : leftover (statsOf n (deltaIn 2 x y items)) ≡ length items - (insertsLen 2 x items + 32 * y)
+  unfolding leftover statsOf deltaIn
+  items-leave =
+      rw (length-inserts 2 x items, length-hashes y (drop (insertsLen 2 x items) items)) (omega (arith, inserts-cells 2 x items (fit-inserts 2 x y items fit)))
+
+  pub nothing-left : eqb (leftover (statsOf n (deltaIn 2 x y items))) 0 ≡ itemsFill x y items
+  unfolding itemsFill
+  nothing-left = rw (items-leave, fit) (none-after (insertsLen 2 x items + 32 * y) (length items) (fit-removes 2 x y items fit))
+
+-- the call that a payload states
+abbrev stated : List ℕ → ℕ → ℕ → Call
+stated body x y = delta (unle (take 8 body)) false x y (drop 16 body)
+
 -- ---- bad items
 
 module _ (body : List ℕ) where
@@ -83,21 +133,30 @@ module _ (body : List ℕ) where
 
   -- x inserts and y removes are stated
   module _ (long : 16 ≤ length body) (x y : ℕ) (inserts : x ≡ unle (take 4 (drop 8 body))) (removes : y ≡ unle (take 4 (drop 12 body))) where
-    same-fit : itemsFit 2 x y (drop 16 body) ≡ itemsFit 2 x y (behind body)
-    same-fit = ap (λ (l : List ℕ). itemsFit 2 x y l) (sym (behind-all body))
+    -- the items that follow decide
+    delta-fill : deltaItem body ≡ (ensure (itemsFill x y (drop 16 body)) >> some (stated body x y))
+    unfolding deltaItem itemsFill deltaIn
+    delta-fill = go (itemsFit 2 x y (drop 16 body)) refl
+      where
+        go : (b : Bool) → itemsFit 2 x y (drop 16 body) ≡ b → deltaItem body ≡ (ensure (itemsFill x y (drop 16 body)) >> some (stated body x y))
+        go false f = rw (payload-past body long (rw (← inserts, ← removes) (delta-none 2 x y (drop 16 body) (omega arith) f)), f)
+        go true f =
+            let l = length-drop 16 body in
+            rw (
+              payload-items body long (deltaIn 2 x y (drop 16 body)) (rw (← inserts, ← removes) (delta-whole 2 x y (drop 16 body) f)),
+              length-inserts 2 x (drop 16 body),
+              length-hashes y (drop (insertsLen 2 x (drop 16 body)) (drop 16 body)),
+            )
+            (ap (λ (t : Bool). ensure t >> some (stated body x y)) (nothing-left (length body) x y (drop 16 body) (omega arith) f))
 
-    pub delta-past : itemsFit 2 x y (behind body) ≡ false → deltaItem body ≡ none
-    unfolding deltaItem
-    delta-past e = rw (payload-past body long (rw (← inserts, ← removes) (delta-none 2 x y (drop 16 body) (omega arith) (same-fit ∙ e))))
+    same-fill : itemsFill x y (drop 16 body) ≡ itemsFill x y (behind body)
+    same-fill = ap (λ (l : List ℕ). itemsFill x y l) (sym (behind-all body))
 
-    pub delta-good : itemsFit 2 x y (behind body) ≡ true → deltaItem body ≡ some (delta (unle (take 8 body)) false x y (drop 16 body))
-    unfolding deltaItem deltaIn
-    delta-good e =
-        rw (
-          payload-items body long (deltaIn 2 x y (drop 16 body)) (rw (← inserts, ← removes) (delta-whole 2 x y (drop 16 body) (same-fit ∙ e))),
-          length-inserts 2 x (drop 16 body),
-          length-hashes y (drop (insertsLen 2 x (drop 16 body)) (drop 16 body)),
-        )
+    pub delta-past : itemsFill x y (behind body) ≡ false → deltaItem body ≡ none
+    delta-past e = delta-fill ∙ rw (same-fill ∙ e)
+
+    pub delta-good : itemsFill x y (behind body) ≡ true → deltaItem body ≡ some (stated body x y)
+    delta-good e = delta-fill ∙ rw (same-fill ∙ e)
 
 -- ---- the call of each kind
 
@@ -148,7 +207,7 @@ module _ (c : Counters) (n : Nursery) (t es ws cs : List ℕ) where
         (ap (λ (x : counters.Changed). effect (record { good = true; answer = x .result .answer; counters = x .result .counters; nursery = n }) (x .table) es ws cs) e)
 
     pub delta-ran : (x y : ℕ) (a : Committed) (e w s : List ℕ) → nursery.effect a e w s ≡ nursery.deltaCall n es ws cs false x y (behind body)
-        → 16 ≤ length body → x ≡ unle (take 4 (drop 8 body)) → y ≡ unle (take 4 (drop 12 body)) → itemsFit 2 x y (behind body) ≡ true
+        → 16 ≤ length body → x ≡ unle (take 4 (drop 8 body)) → y ≡ unle (take 4 (drop 12 body)) → itemsFill x y (behind body) ≡ true
         → effect (record { good = true; answer = a .answer; counters = c; nursery = a .nursery }) t e w s ≡ ran (boxOf c t n es ws cs) (deltaItem body)
     unfolding ran step withNursery
     delta-ran x y a e w s q long p r fit =

@@ -16,6 +16,7 @@ use Rattle.base.specs.declared.Refusal.the-variants.{Broken}
 use Rattle.counters.specs.declared.Counters.{Counters}
 use Rattle.cell_nursery.specs.declared.Nursery.{Nursery}
 use Rattle.format.specs.Payload.{payloadOf}
+use Rattle.format.specs.Record.{statsOf, leftover}
 use Rattle.node_box.specs.Box.{Box, Call, allocate, batch, delta, drain, made, step}
 use Rattle.box_lines.specs.declared.Line.{Line}
 use Rattle.box_lines.specs.Lines.{kindOf, bodyLen, lineText, heading}
@@ -37,10 +38,11 @@ wordsIn (suc n) bs = unle (take 8 bs) ∷ wordsIn n (drop 8 bs)
 unfoldable pub batchItem : List ℕ → Option Call
 batchItem body = ensure (eqb (length body % 24) 0) >> some (batch (wordsIn (length body / 8) body))
 
--- a payload: the two list lengths stand behind the id, the items behind them
+-- a payload with nothing after its last item: the two list lengths stand behind the id, the items behind them
 unfoldable pub deltaItem : List ℕ → Option Call
 deltaItem body = do
   p ← payloadOf body
+  ensure (eqb (leftover (statsOf (length body) (p .delta))) 0)
   some (delta (p .id) false (length (p .delta .inserts)) (length (p .delta .removes)) (drop 16 body))
 
 -- 256 entries and 16,384 cell bytes handed out

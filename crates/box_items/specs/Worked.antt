@@ -20,6 +20,17 @@ item kind body = le32 (length body) ++ le16 kind ++ body
 abbrev three : ℕ → ℕ → ℕ → List ℕ
 three i a b = le64 i ++ le64 a ++ le64 b
 
+-- a payload of id 7
+abbrev payload : ℕ → ℕ → List ℕ → List ℕ
+payload inserts removes items = le64 7 ++ le32 inserts ++ le32 removes ++ items
+
+-- a hash, and an insert of it with a cell of one byte
+abbrev five : List ℕ
+five = zeros 31 ++ 5 ∷ []
+
+abbrev insert : List ℕ
+insert = five ++ le64 0 ++ le32 0 ++ le16 1 ++ 9 ∷ []
+
 abbrev line : ℕ → ℕ → ℕ → ℕ → ℕ → Line
 line p k a n l = record { place = p; kind = k; answer = a; next = n; live = l }
 
@@ -45,6 +56,36 @@ body-cut = refl
 pub misfit : run (item 3 (zeros 15) ++ item 1 []) ≡ line 0 3 20 0 0 ∷ []
 unfolding evaluation
 misfit = refl
+
+-- a payload ends with its last item: a remove, an insert's cell, or with none its lengths. One byte after it is too many
+pub remove-last : run (item 3 (payload 0 1 five) ++ item 1 []) ≡ line 0 3 0 0 0 ∷ line 1 1 0 1 0 ∷ []
+unfolding evaluation
+remove-last = refl
+
+pub after-remove : run (item 3 (payload 0 1 five ++ 7 ∷ []) ++ item 1 []) ≡ line 0 3 20 0 0 ∷ []
+unfolding evaluation
+after-remove = refl
+
+pub insert-last : run (item 3 (payload 1 0 insert) ++ item 1 []) ≡ line 0 3 0 0 0 ∷ line 1 1 0 1 0 ∷ []
+unfolding evaluation
+insert-last = refl
+
+pub after-insert : run (item 3 (payload 1 0 insert ++ 7 ∷ []) ++ item 1 []) ≡ line 0 3 20 0 0 ∷ []
+unfolding evaluation
+after-insert = refl
+
+pub no-items : run (item 3 (payload 0 0 []) ++ item 1 []) ≡ line 0 3 0 0 0 ∷ line 1 1 0 1 0 ∷ []
+unfolding evaluation
+no-items = refl
+
+pub after-lengths : run (item 3 (payload 0 0 [] ++ 7 ∷ []) ++ item 1 []) ≡ line 0 3 20 0 0 ∷ []
+unfolding evaluation
+after-lengths = refl
+
+-- a whole remove that the lengths don't count
+pub remove-too-many : run (item 3 (payload 0 1 (five ++ five))) ≡ line 0 3 20 0 0 ∷ []
+unfolding evaluation
+remove-too-many = refl
 
 pub ragged : run (item 2 (zeros 16)) ≡ line 0 2 20 0 0 ∷ []
 unfolding evaluation

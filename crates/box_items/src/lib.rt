@@ -15,8 +15,8 @@ ghost use mathlib.Core.List.{List};
 ghost use Prim.Native.Nat.{ℕ, _*_, _≤_};
 ghost use lib.ListN.{length};
 ghost use lib.Seq.{paste};
-ghost use Rattle.delta_items.specs.Walk.{itemsFit};
 ghost use Rattle.box_items.specs.Items.{badItem, effect, boxOf, ran, wordsIn, allocateItem, batchItem, deltaItem, drainItem, callOf, itemCall, lineOf, turnEffect, turn};
+ghost use Rattle.box_items.specs.ItemLaws.{itemsFill};
 
 // What running an item returns: whether it stands for a call, the answer, and the box's records after it. A bad item's answer is 20.
 struct Ran {
@@ -111,14 +111,14 @@ fn run_batch(counters: Counters, nursery: Nursery, t: &mut [u64], body: &[u8]) -
     }
 }
 
-// Whether a payload's items stand whole behind its 16 bytes.
-fn items_fit(items: &[u8], inserts: u64, removes: u64) -> bool
-    ensures { λ r. ⌜ r ≡ itemsFit 2 inserts removes (now (items .entry)) ⌝ }
+// Whether a payload's items stand whole behind its 16 bytes, and nothing after them.
+fn items_fill(items: &[u8], inserts: u64, removes: u64) -> bool
+    ensures { λ r. ⌜ r ≡ itemsFill inserts removes (now (items .entry)) ⌝ }
 {
-    let End::At(_) = delta_items::removes_at(items, false, inserts, removes) else {
+    let End::At(at) = delta_items::removes_at(items, false, inserts, removes) else {
         return false;
     };
-    true
+    at + 32 * removes as usize == items.len()
 }
 
 // Kind 3. It is lent the nursery's tables.
@@ -137,7 +137,7 @@ fn run_delta(
     }
     let inserts = read_le32(body, 8) as u64;
     let removes = read_le32(body, 12) as u64;
-    if !items_fit(&body[16..], inserts, removes) {
+    if !items_fill(&body[16..], inserts, removes) {
         return bad(counters, nursery);
     }
     let c = nursery_commit::apply_commit(nursery, es, ws, cs, false, inserts, removes, &body[16..]);

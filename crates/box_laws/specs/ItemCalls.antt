@@ -17,8 +17,10 @@ use Rattle.base.specs.Bytes.{unle}
 use Rattle.base.specs.NumberLaws.{number-below}
 use Rattle.cell_nursery.specs.Items.{deltaOf}
 use Rattle.format.specs.Payload.{payloadOf}
+use Rattle.format.specs.Record.{statsOf, leftover}
 use Rattle.base.specs.MaybeLaws.{Gives, nothing, gives, gives-bind, gives-ensure, gives-each}
-use Rattle.journal_laws.specs.DeltaLaws.{Bytes, cut-bytes, le-bytes, delta-read}
+use Rattle.base.specs.SpellLaws.{Bytes}
+use Rattle.journal_laws.specs.DeltaLaws.{cut-bytes, le-bytes, delta-read}
 use Rattle.node_box.specs.Box.{Call, allocate, batch, delta, drain}
 use Rattle.node_box.specs.Demand.{typed}
 use Rattle.box_lines.specs.Lines.{kindOf, bodyLen}
@@ -70,7 +72,8 @@ module _ (body : List ℕ) (b : Bytes body) where
   unfolding deltaItem typed
   delta-fits =
       gives-bind (payload-fits body b) (λ p q.
-      gives {a = delta (p .id) false (length (p .delta .inserts)) (length (p .delta .removes)) (drop 16 body)} (rw (lt-ltb (p .id) (2 ^ 64) (q .0), lt-ltb (length (p .delta .inserts)) (2 ^ 64) (omega (arith, q .1)), lt-ltb (length (p .delta .removes)) (2 ^ 64) (omega (arith, q .2))) (all-drop (λ x. ltb x 256) 16 body b), changes _ _ _ _ _))
+      gives-ensure (eqb (leftover (statsOf (length body) (p .delta))) 0) (λ e.
+      gives {a = delta (p .id) false (length (p .delta .inserts)) (length (p .delta .removes)) (drop 16 body)} (rw (lt-ltb (p .id) (2 ^ 64) (q .0), lt-ltb (length (p .delta .inserts)) (2 ^ 64) (omega (arith, q .1)), lt-ltb (length (p .delta .removes)) (2 ^ 64) (omega (arith, q .2))) (all-drop (λ x. ltb x 256) 16 body b), changes _ _ _ _ _)))
 
   drain-fits : Gives Fit (drainItem body)
   unfolding drainItem typed drainRoom

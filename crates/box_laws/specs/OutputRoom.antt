@@ -17,7 +17,7 @@ use Rattle.base.specs.declared.Answer.{Answer}
 use Rattle.base.specs.declared.Answer.the-variants.{Taken, Refused}
 use Rattle.base.specs.declared.Refusal.the-variants.{OutputFull}
 use Rattle.base.specs.MaybeLaws.{Gives, gives}
-use Rattle.journal_laws.specs.DeltaLaws.{Bytes}
+use Rattle.base.specs.SpellLaws.{Bytes}
 use Rattle.node_box.specs.Box.{Box, Call, allocate, batch, delta, made, step, run}
 use Rattle.node_box.specs.Demand.{start, end}
 use Rattle.demand3.specs.Holding.{Sizes, Holding, holding-step, holding}

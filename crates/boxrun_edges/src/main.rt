@@ -46,6 +46,7 @@ fn main() {
     edge(b"a ragged batch", b"ragged");
     edge(b"a payload of 15 bytes", b"short_payload");
     edge(b"a payload whose insert runs past it", b"misfit");
+    edge(b"a payload with a byte after its last item", b"leftover");
     edge(b"a round of two bytes", b"short_round");
     edge(b"deltas, and drains at 99 and 100", b"drains");
     edge(

@@ -29,17 +29,17 @@ read-le32-requires-2 c κs = search needs
 cast-removes : tie.Need-cast-removes
 cast-removes c = search needs
 
-sub-items-fit : tie.Need-sub-items-fit
-sub-items-fit c = search needs
+sub-items-fill : tie.Need-sub-items-fill
+sub-items-fill c = search needs
 
-part-items-fit-start : tie.Need-part-items-fit-start
-part-items-fit-start c = search needs
+part-items-fill-start : tie.Need-part-items-fill-start
+part-items-fill-start c = search needs
 
-part-items-fit-end : tie.Need-part-items-fit-end
-part-items-fit-end c = search needs
+part-items-fill-end : tie.Need-part-items-fill-end
+part-items-fill-end c = search needs
 
-items-fit-requires : tie.Need-items-fit-requires
-items-fit-requires c κs = search needs
+items-fill-requires : tie.Need-items-fill-requires
+items-fill-requires c κs = search needs
 
 bad-requires-2 : tie.Need-bad-requires-2
 bad-requires-2 c κs = search needs
@@ -49,7 +49,7 @@ returns-2 c = λ t.
     let a = c .before .before .before .before .before .before .before .before .before .before .before .args in
     let i = c .before .before .before .before .before .read-le32 in
     let r = c .before .before .before .before .read-le322 in
-    let past = delta-past (a .body .now) (omega arith) (i .result) (r .result) (i .ensures) (r .ensures) (sym (c .before .before .items-fit .ensures) ∙ not-true _ (c .before .if2 .taken)) in
+    let past = delta-past (a .body .now) (omega arith) (i .result) (r .result) (i .ensures) (r .ensures) (sym (c .before .before .items-fill .ensures) ∙ not-true _ (c .before .if2 .taken)) in
     bad-ran (a .counters) (a .nursery) t (a .es .now) (a .ws .now) (a .cs .now) (c .bad2 .result) (deltaItem (a .body .now)) (c .bad2 .ensures) past
 
 sub-apply-commit : tie.Need-sub-apply-commit
@@ -78,7 +78,7 @@ returns-3 c = λ t.
     let a = c .before .before .before .before .before .before .before .before .before .before .before .before .before .before .before .before .before .before .before .before .before .before .args in
     let i = c .before .before .before .before .before .before .before .before .before .before .before .before .before .before .before .before .read-le32 in
     let r = c .before .before .before .before .before .before .before .before .before .before .before .before .before .before .before .read-le322 in
-    let fit = sym (c .before .before .before .before .before .before .before .before .before .before .before .before .before .items-fit .ensures) ∙ not-false _ (c .before .before .before .before .before .before .before .before .before .before .before .before .if2 .left) in
+    let fit = sym (c .before .before .before .before .before .before .before .before .before .before .before .before .before .items-fill .ensures) ∙ not-false _ (c .before .before .before .before .before .before .before .before .before .before .before .before .if2 .left) in
     delta-ran (a .counters) (a .nursery) t (a .es .now) (a .ws .now) (a .cs .now) (a .body .now) (i .result) (r .result) (c .before .before .before .before .before .before .before .apply-commit .result) _ _ _ (c .before .before .before .before .before .before .before .apply-commit .ensures) (omega arith) (i .ensures) (r .ensures) fit
 
 pub run-delta-spec : {M : Type 1} → statement M
@@ -91,10 +91,10 @@ run-delta-spec =
     cast-inserts
     read-le32-requires-2
     cast-removes
-    sub-items-fit
-    part-items-fit-start
-    part-items-fit-end
-    items-fit-requires
+    sub-items-fill
+    part-items-fill-start
+    part-items-fill-end
+    items-fill-requires
     bad-requires-2
     returns-2
     sub-apply-commit
