@@ -1,9 +1,9 @@
-// Hash, records and the scan of a journal as C functions; include/selvaigo.h declares them. A slice passes as a pointer and a length, an array as a pointer.
+// Hash, records, the scan of a journal and its conversion as C functions; include/selvaigo.h declares them. A slice passes as a pointer and a length, an array as a pointer.
 ghost use mathlib.Core.Path.{_≡_};
 ghost use mathlib.Core.List.{[], _∷_};
 ghost use Rattle.blake3.specs.Spec as blake3;
 ghost use Rattle.state_words.specs.Words.{said};
-ghost use Rattle.word_calls.specs.RecordSaid.{encodeSaid, decodeSaid, scanSaid};
+ghost use Rattle.word_calls.specs.RecordSaid.{encodeSaid, decodeSaid, scanSaid, convertSaid};
 
 // The hash of bytes.
 #[no_mangle]
@@ -77,4 +77,20 @@ pub extern "C" fn selvaigo_scan_journal(journal: &[u8], scan: &mut [u64; 3]) -> 
     let number = ended.number() as u64;
     *scan = [x.records as u64, x.place as u64, number];
     0
+}
+
+// A journal without the bytes that its payloads have after their last items, and the list of these.
+#[no_mangle]
+pub extern "C" fn selvaigo_convert_journal(
+    journal: &[u8],
+    out: &mut [u8],
+    dropped: &mut [u8],
+    lengths: &mut [u64; 2],
+) -> u8
+    ensures { λ r. ⌜ said r (now (lengths .exit) ∷ []) (now (out .exit) ∷ now (dropped .exit) ∷ []) ≡ convertSaid (now (journal .entry)) (now (out .entry)) (now (dropped .entry)) ⌝ }
+{
+    let x = journal_convert::convert_journal(journal, out, dropped);
+    *lengths = [x.len as u64, x.dropped_len as u64];
+    let a = x.answer;
+    a.number()
 }

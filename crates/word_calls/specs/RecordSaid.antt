@@ -9,6 +9,7 @@ use Rattle.format.specs.declared.Decoded.{Decoded}
 use Rattle.format.specs.Calls.{EncodedOut, encodeCall, decodeCall}
 use Rattle.journal.specs.declared.JournalScan.{JournalScan}
 use Rattle.journal.specs.Journal.{scan, ReadIn, readCall}
+use Rattle.journal.specs.Convert.{ConvertedOut, convertCall}
 use Rattle.state_words.specs.Words.{nurseryWords, Said, said, wordsAfter}
 use Rattle.word_calls.specs.NurserySaid.{flag}
 
@@ -39,6 +40,14 @@ scannedSaid x = said 0 ((x .records ∷ x .place ∷ answerNumber (x .ended) ∷
 -- the records of a journal, applied to nothing
 unfoldable pub scanSaid : List ℕ → Said
 scanSaid bs = scannedSaid (scan hash bs)
+
+-- the lengths of the new journal and of the list of what was dropped, and the two outputs
+unfoldable pub convertedSaid : ConvertedOut → Said
+convertedSaid x = said (answerNumber (x .result .answer)) ((x .result .len ∷ x .result .«dropped_len» ∷ []) ∷ []) (x .out ∷ x .dropped ∷ [])
+
+-- a journal, converted into lent outputs
+unfoldable pub convertSaid : List ℕ → List ℕ → List ℕ → Said
+convertSaid bs out dropped = convertedSaid (convertCall hash bs out dropped)
 
 -- the records that a reading applied, the place after them and the number of what ended it; the nursery's words where it was taken, and its tables
 unfoldable pub readInSaid : List ℕ → ReadIn → Said

@@ -11,9 +11,12 @@ use Rattle.format.specs.declared.Decoded.{Decoded}
 use Rattle.format.specs.Calls.{EncodedOut}
 use Rattle.journal.specs.declared.JournalRead.{JournalRead}
 use Rattle.journal.specs.declared.JournalScan.{JournalScan}
+use Rattle.journal.specs.declared.Converted.{Converted}
 use Rattle.journal.specs.Journal.{ReadIn, effect}
+use Rattle.journal.specs.Convert as convert
+use Rattle.journal.specs.Convert.{ConvertedOut}
 use Rattle.state_words.specs.Words.{nurseryWords, said}
-use Rattle.word_calls.specs.RecordSaid.{statWords, encodedSaid, decodedSaid, scannedSaid, readInSaid}
+use Rattle.word_calls.specs.RecordSaid.{statWords, encodedSaid, decodedSaid, scannedSaid, convertedSaid, readInSaid}
 
 pub encoded-said : {x : Encoded} {t : List ℕ} {y : EncodedOut} {r : ℕ} → record { result = x; out = t } ≡ y → r ≡ answerNumber (x .answer)
     → said r ((x .len ∷ statWords (x .stats)) ∷ []) (t ∷ []) ≡ encodedSaid y
@@ -28,6 +31,11 @@ decoded-said e p = rw p (ap decodedSaid e)
 pub scanned-said : {x y : JournalScan} {n : ℕ} → x ≡ y → n ≡ answerNumber (x .ended) → said 0 ((x .records ∷ x .place ∷ n ∷ []) ∷ []) [] ≡ scannedSaid y
 unfolding scannedSaid
 scanned-said e p = rw p (ap scannedSaid e)
+
+pub converted-said : {x : Converted} {t u : List ℕ} {y : ConvertedOut} {r : ℕ} → convert.effect x t u ≡ y → r ≡ answerNumber (x .answer)
+    → said r ((x .len ∷ x .«dropped_len» ∷ []) ∷ []) (t ∷ u ∷ []) ≡ convertedSaid y
+unfolding convertedSaid
+converted-said e p = rw p (ap convertedSaid e)
 
 -- ---- a journal whose reading is taken, and one whose reading is refused
 module _ (v : List ℕ) {x : JournalRead} {es ws cs : List ℕ} {y : ReadIn} {n : ℕ} (e : effect x es ws cs ≡ y) (k : n ≡ answerNumber (x .ended)) where

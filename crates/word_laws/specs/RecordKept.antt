@@ -1,7 +1,7 @@
 -- The promises of include/selvaigo.h for records and journals. A refused call leaves zeros for its values and changes no slice. What a journal's
--- reading can be refused with, and end with; what a scan says of it. And what a reading that is taken leaves may be lent to the held forms.
+-- reading can be refused with, and end with; what a scan says of it; what a conversion can be refused with. And what a reading that is taken leaves may be lent to the held forms.
 -- Assumes nothing.
-use Prim.Native.Nat.{ℕ}
+use Prim.Native.Nat.{ℕ, _*_, _/_, _≤_}
 use native.Mathlib.Omega.{arith}
 use mathlib.Core.Path.{_≡_, refl, sym, _∙_}
 use mathlib.Core.Logic.{_↔_}
@@ -10,12 +10,13 @@ use mathlib.Core.List.{List, [], _∷_}
 use lib.ListN.{length, getD}
 use lib.Dec.{ltb, eqb}
 use borrow.Author.Tests.{ne-eqb}
-use Rattle.base.specs.Logic.{any, elem, zeros}
+use Rattle.base.specs.Logic.{any, elem, flat, zeros}
 use Rattle.base.specs.Answers.{Outcome, refused, taken, numberOf, answerNumber, _>>=_, _>>_, refuseIf, orRefuse}
 use Rattle.base.specs.declared.Answer.{Answer}
 use Rattle.base.specs.declared.Answer.the-variants.{Taken, Refused}
 use Rattle.base.specs.declared.Refusal.the-variants.{OutputFull, Broken}
 use Rattle.blake3.specs.Spec as blake3
+use Rattle.blake3.specs.Equations.{length-hash}
 use Rattle.cell_nursery.specs.Items.{deltaOf}
 use Rattle.cell_nursery.specs.Layout.{holds}
 use Rattle.cell_nursery.specs.Calls.{lengthWidth}
@@ -23,12 +24,14 @@ use Rattle.slices.specs.ByteLaws.{U8, u8-bytes}
 use Rattle.format.specs.Record.{Encoding, Decoding, encode, decode}
 use Rattle.format.specs.Calls.{noStats, encodedOut, encodeCall, decodedOf, decodeCall}
 use Rattle.journal.specs.Journal.{scan, damages, damaged, ReadIn, notRead, readOut, readCall}
+use Rattle.journal.specs.Convert.{Conversion, droppedBytes, convert, convertedOut, convertCall}
 use Rattle.journal.specs.ReadLaws.{read-damaged, read-undamaged}
+use Rattle.journal_laws.specs.ConvertLaws as journal
 use Rattle.journal_laws.specs.LoadLaws.{read-holds}
 use Rattle.journal_laws.specs.EndLaws.{endNumbers, read-ends}
 use Rattle.state_words.specs.Words.{nurseryWords, wordsAfter, Unchanged, left}
 use Rattle.word_calls.specs.NurserySaid.{flag}
-use Rattle.word_calls.specs.RecordSaid.{encodedSaid, encodeSaid, decodedSaid, decodeSaid, scannedSaid, scanSaid, readInSaid, journalSaid}
+use Rattle.word_calls.specs.RecordSaid.{encodedSaid, encodeSaid, decodedSaid, decodeSaid, scannedSaid, scanSaid, convertedSaid, convertSaid, readInSaid, journalSaid}
 use Rattle.word_laws.specs.CountersKept.{number-not-zero}
 use Rattle.word_laws.specs.NurseryKept.{Held, words-held}
 
@@ -99,6 +102,34 @@ scan-says bs v es ws cs = go (damaged blake3.hash bs) refl
     go false e =
         rw (read-undamaged blake3.hash bs es ws cs e)
         (λ f. absurd (omega arith), λ f. absurd (true≢false (sym (neither (scan blake3.hash bs .ended) .0 f) ∙ e)))
+
+-- ---- conversion
+-- it is taken or refused with 15
+pub convert-answers : (bs out dropped : List ℕ) → elem (convertSaid bs out dropped .answer) (0 ∷ 15 ∷ []) ≡ true
+unfolding convertSaid convertedSaid convertCall convertedOut any
+convert-answers bs out dropped =
+    let c = convert blake3.hash bs in
+    go (ltb (length out) (length (c .bytes))) (ltb (length dropped) (length (flat droppedBytes (c .dropped)))) c
+  where
+    go : (a b : Bool) (c : Conversion) → elem (convertedSaid (convertedOut out dropped (refuseIf a OutputFull >> (refuseIf b OutputFull >> taken c))) .answer) (0 ∷ 15 ∷ []) ≡ true
+    go true b c = refl
+    go false true c = refl
+    go false false c = refl
+
+-- outputs that are always long enough
+pub convert-room : (bs out dropped : List ℕ) → U8 bs → length bs ≤ length out → 16 * (length bs / 57) ≤ length dropped → convertSaid bs out dropped .answer ≡ 0
+unfolding convertSaid convertedSaid
+convert-room bs out dropped u h k = rw (journal.convert-room blake3.hash bs out dropped length-hash (u8-bytes bs u) h k)
+
+pub convert-unchanged : (bs out dropped : List ℕ) → Unchanged (zeros 2 ∷ []) (out ∷ dropped ∷ []) (convertSaid bs out dropped)
+unfolding convertSaid convertedSaid convertCall convertedOut
+convert-unchanged bs out dropped =
+    let c = convert blake3.hash bs in
+    go (refuseIf (ltb (length out) (length (c .bytes))) OutputFull >> (refuseIf (ltb (length dropped) (length (flat droppedBytes (c .dropped)))) OutputFull >> taken c))
+  where
+    go : (o : Outcome Conversion) → Unchanged (zeros 2 ∷ []) (out ∷ dropped ∷ []) (convertedSaid (convertedOut out dropped o))
+    go (refused q) n = (refl, refl)
+    go (taken c) n = absurd (n refl)
 
 -- ---- what is left may be lent to the held forms, whatever ended the reading
 pub journal-held : (bs v es ws cs : List ℕ) → U8 bs → let s = journalSaid bs v es ws cs in s .answer ≡ 0 → Held (left 0 s) (left 1 s) (left 2 s) (left 3 s)
