@@ -4,13 +4,16 @@ use byte_slices::equal;
 use call_lists::answers::NONE;
 use call_lists::answers::put;
 use call_lists::answers::put_byte;
+use call_lists::answers::put_bytes;
 use call_lists::answers::put_eight;
 use call_lists::answers::put_hash;
 use call_lists::answers::put_six;
+use call_lists::answers::put_two;
 use call_lists::answers::put_words;
 use call_lists::answers::room;
 use call_lists::answers::text_room;
 use call_lists::answers::word;
+use record_abi::selvaigo_convert_journal;
 use record_abi::selvaigo_decode_record;
 use record_abi::selvaigo_encode_record;
 use record_abi::selvaigo_hash;
@@ -101,6 +104,32 @@ fn decode_and_again(call: &[u8], out: &mut [u8]) -> usize {
     put_byte(out, at, again(call))
 }
 
+// A conversion, with so many bytes of output for the list of what is dropped. In the answer the list's output stands before the new journal's.
+fn convert(journal: &[u8], n: usize, out: &mut [u8]) -> usize {
+    if 60000 < n {
+        return NONE;
+    }
+    if out.len() < 17 + n {
+        return NONE;
+    }
+    let mut room = room();
+    let list = &mut room[0..n];
+    let mut lengths = [7u64; 2];
+    let number = selvaigo_convert_journal(journal, &mut out[17 + n..], list, &mut lengths);
+    let at = put_two(out, number, &lengths);
+    put_bytes(out, at, list);
+    out.len()
+}
+
+// The call has the length of the list's output, and the journal.
+fn convert_call(call: &[u8], out: &mut [u8]) -> usize {
+    if call.len() < 8 {
+        return NONE;
+    }
+    let n = word(call, 0);
+    convert(&call[8..], n as usize, out)
+}
+
 fn should_shrink(call: &[u8], out: &mut [u8]) -> usize {
     let yes = selvaigo_should_shrink(word(call, 0), word(call, 8), word(call, 16));
     put(out, yes, &[])
@@ -120,6 +149,7 @@ pub(crate) fn answer(kind: u8, call: &[u8], out: &mut [u8]) -> usize {
         36 => decode_and_again(call, out),
         37 => should_shrink(call, out),
         38 => adjust(call, out),
+        39 => convert_call(call, out),
         _ => NONE,
     }
 }
