@@ -62,7 +62,8 @@ enum {
     SELVAIGO_MISMATCH = 18,      /* the hash of a record is wrong */
     SELVAIGO_MISFIT = 19,        /* a stated length under 16, or items that run past it */
     SELVAIGO_BROKEN = 20,        /* what is lent isn't in the layout */
-    SELVAIGO_DAMAGED = 21        /* a record of a journal is refused with another number than 16 */
+    SELVAIGO_DAMAGED = 21,       /* a record of a journal is refused with another number than 16 */
+    SELVAIGO_LEFTOVER = 22       /* bytes of a record's payload are left over after its last item */
 };
 
 /* ---- Counters ---- */
@@ -121,8 +122,8 @@ uint8_t selvaigo_nursery_new(uint64_t nursery[SELVAIGO_NURSERY], uint64_t *entri
                              size_t waiting_len, uint8_t *cells, size_t cells_len);
 
 /* A delta: as many inserts as stated (hash 32, index u64, born round u32, cell length u16, cell), then as many removes
- * (hash 32), end to end, little-endian; where wide isn't 0 a cell length is a u32. Writes nursery, entries, waiting and cells, all of it or
- * nothing. */
+ * (hash 32), end to end, little-endian; where wide isn't 0 a cell length is a u32. Items that run past their bytes are SELVAIGO_BROKEN; bytes
+ * after the last item are ignored, here as in encoding, though not in a record. Writes nursery, entries, waiting and cells, all of it or nothing. */
 uint8_t selvaigo_apply_commit(uint64_t nursery[SELVAIGO_NURSERY], uint64_t *entries, size_t entries_len, uint64_t *waiting,
                               size_t waiting_len, uint8_t *cells, size_t cells_len, uint8_t wide, uint64_t inserts,
                               uint64_t removes, const uint8_t *items, size_t items_len);
@@ -163,18 +164,19 @@ uint8_t selvaigo_snapshot_entries_held(const uint64_t nursery[SELVAIGO_NURSERY],
 /* BLAKE3 of bytes: writes hash. */
 void selvaigo_hash(const uint8_t *bytes, size_t bytes_len, uint8_t hash[32]);
 
-/* The record of a delta (stated as for selvaigo_apply_commit): writes the first figures[0] bytes of out, and the figures: the record's
- * length, payload bytes, metadata bytes, cell bytes, inserts, removes. */
+/* The record of a delta (stated as for selvaigo_apply_commit; what follows its items is ignored and not written): writes the first
+ * figures[0] bytes of out, and the figures: the record's length, payload bytes, metadata bytes, cell bytes, inserts, removes. */
 uint8_t selvaigo_encode_record(uint64_t id, uint8_t wide, uint64_t inserts, uint64_t removes, const uint8_t *items,
                                size_t items_len, uint8_t *out, size_t out_len, uint64_t figures[6]);
 
-/* The record that bytes start with: writes its hash, and the figures: id, place of the items in bytes, their length, payload bytes,
- * metadata bytes, cell bytes, inserts, removes. */
+/* The record that bytes start with, whatever follows it: writes its hash, and the figures: id, place of the items in bytes, their length,
+ * payload bytes, metadata bytes, cell bytes, inserts, removes. Refused with 16 to 19; then, if its payload goes on after the last item, with
+ * SELVAIGO_LEFTOVER. What is taken is what selvaigo_encode_record writes, byte for byte. */
 uint8_t selvaigo_decode_record(const uint8_t *bytes, size_t bytes_len, uint64_t figures[8], uint8_t hash[32]);
 
 /* The records of a journal, one after another, whatever their deltas are; none is applied. Writes scan: how many are taken, the place after the
  * last of them, and the number that the record there is refused with: 0 at the journal's end, 16 where it is cut. Any other number is
- * damage: reading the journal is refused. Always taken. */
+ * damage, SELVAIGO_LEFTOVER among them: reading the journal is refused. Always taken. */
 uint8_t selvaigo_scan_journal(const uint8_t *journal, size_t journal_len, uint64_t scan[3]);
 
 /* A journal, read into an empty nursery: writes nursery, entries, waiting and cells, whatever was in them, and read: records
@@ -184,6 +186,18 @@ uint8_t selvaigo_scan_journal(const uint8_t *journal, size_t journal_len, uint64
 uint8_t selvaigo_read_journal(const uint8_t *journal, size_t journal_len, uint64_t nursery[SELVAIGO_NURSERY], uint64_t *entries,
                               size_t entries_len, uint64_t *waiting, size_t waiting_len, uint8_t *cells, size_t cells_len,
                               uint64_t read[3]);
+
+/* A journal of the time when bytes after a payload's last item were passed over, rewritten for the rule that refuses them: each record
+ * without such leftovers, with its length and its hash set anew; one that has none comes out as it was. From the first record on that is
+ * refused with 16 to 19 all bytes are copied unchanged: a cut stays a cut, and damage stays damage. Reading the new journal gives what reading the
+ * old one gave then, and converting it again changes nothing.
+ *
+ * Writes the new journal to the front of out, and to the front of dropped 16 bytes for each record that had leftovers: the place of the first of
+ * them in the old journal and how many they are, each a u64, little-endian; and lengths: bytes of the new journal, bytes of that list. The
+ * only refusal is SELVAIGO_OUTPUT_FULL, where either output is shorter than what goes there; it is decided before either is touched. An out of
+ * journal_len bytes and a dropped of 16 * (journal_len / 57) are always enough. */
+uint8_t selvaigo_convert_journal(const uint8_t *journal, size_t journal_len, uint8_t *out, size_t out_len, uint8_t *dropped,
+                                 size_t dropped_len, uint64_t lengths[2]);
 
 #ifdef __cplusplus
 }

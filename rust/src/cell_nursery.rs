@@ -88,7 +88,7 @@ pub struct DeltaItems<'a> {
     pub inserts: u64,
     /// How many removes follow: hash 32.
     pub removes: u64,
-    /// The items. Bytes after the last one are ignored.
+    /// The items. Bytes after the last one are ignored by the calls that are lent them; a record has none there.
     pub bytes: Cow<'a, [u8]>,
 }
 

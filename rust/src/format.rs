@@ -84,7 +84,8 @@ pub(crate) fn encoded(id: u64, items: &DeltaItems<'_>) -> Result<EncodedRecord, 
     Ok(EncodedRecord { id, bytes, stats })
 }
 
-/// The record of a delta that is at hand as bytes, into the front of `out`: its length and figures.
+/// The record of a delta that is at hand as bytes, into the front of `out`: its length and figures. Bytes after the last item are ignored, and
+/// not written.
 pub fn encode_items(id: u64, items: &DeltaItems<'_>, out: &mut [u8]) -> Result<(usize, RecordStats), Refusal> {
     let mut figures = [0; 6];
     // SAFETY: slices, and an array to write; none overlaps another.
@@ -112,7 +113,7 @@ pub struct DecodedRecord<'a> {
     pub id: u64,
     /// Its hash.
     pub hash: [u8; HASH_LEN],
-    /// Its delta's items, in the bytes that were read.
+    /// Its delta's items, in the bytes that were read, with nothing after them.
     pub items: DeltaItems<'a>,
     /// Its figures.
     pub stats: RecordStats,
@@ -130,7 +131,8 @@ impl DecodedRecord<'_> {
     }
 }
 
-/// The record that bytes start with.
+/// The record that bytes start with, whatever follows it. One whose payload goes on after its last item is refused with [`Refusal::Leftover`]; what
+/// is taken is what [`encode_record`] writes, byte for byte.
 pub fn decode_record(bytes: &[u8]) -> Result<DecodedRecord<'_>, Refusal> {
     let mut figures = [0; 8];
     let mut hash = [0; HASH_LEN];

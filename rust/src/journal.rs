@@ -2,7 +2,7 @@
 use std::error::Error;
 use std::fmt;
 
-use crate::{CellNursery, Refusal, size, sys, taken};
+use crate::{CellNursery, Refusal, raw, size, sys, taken};
 
 /// How far the records of a journal are taken one after another, whatever their deltas are.
 #[derive(Debug, Clone, Copy, PartialEq, Eq)]
@@ -38,7 +38,7 @@ pub struct DamagedRecord {
     pub records: u64,
     /// The place where it starts. The bytes before it are a journal with no damage.
     pub place: usize,
-    /// What it is refused with by itself.
+    /// What it is refused with by itself. With [`Refusal::Leftover`] it is one of the time before that refusal, and [`convert_journal`] rewrites the journal.
     pub refusal: Refusal,
 }
 
@@ -81,4 +81,65 @@ pub fn read_journal(journal: &[u8], entries: usize, cell_bytes: usize) -> Result
     // The reading says that there is one, and a second scan which.
     let found = |_| scan_journal(journal).damaged().expect("a damaged record, for which the reading was refused");
     CellNursery::read(journal, entries, cell_bytes).map_err(found)
+}
+
+/// A journal that was rewritten.
+#[derive(Debug, Clone, PartialEq, Eq)]
+pub struct Converted {
+    /// The new journal.
+    pub journal: Vec<u8>,
+    /// What was dropped of the old one, in its order: a stretch for each record that had leftovers.
+    pub dropped: Vec<Dropped>,
+}
+
+/// Leftovers of a record that were dropped.
+#[derive(Debug, Clone, Copy, PartialEq, Eq)]
+pub struct Dropped {
+    /// The place of the first of them in the old journal.
+    pub place: usize,
+    /// How many bytes they are.
+    pub count: usize,
+}
+
+impl Dropped {
+    /// The stretches in a list that a conversion wrote, in their order.
+    pub fn all(list: &[u8]) -> impl Iterator<Item = Dropped> {
+        let number = |bytes: &[u8; 8]| size(u64::from_le_bytes(*bytes));
+        let pair = move |[place, count]: &[_; 2]| Dropped { place: number(place), count: number(count) };
+        list.as_chunks::<8>().0.as_chunks::<2>().0.iter().map(pair)
+    }
+}
+
+// The shortest record with leftovers: hash, length, id, the two numbers of items, and a byte.
+const SHORTEST: usize = 57;
+
+/// Rewrites a journal of the time when bytes after a payload's last item were passed over, for the rule that refuses them with
+/// [`Refusal::Leftover`]: each record without such leftovers, with its length and its hash set anew. A record that has none comes out as it was. From the
+/// first record on that is refused with one of the numbers 16 to 19, all bytes are copied unchanged: a cut stays a cut, and damage stays damage.
+///
+/// Reading the new journal gives what reading the old one gave then. Converting it again changes nothing.
+///
+/// ```
+/// use selvaigo::{Dropped, NurseryDelta, Refusal, convert_journal, encode_record, hash, scan_journal};
+///
+/// let record = encode_record(7, &NurseryDelta::default())?;
+/// // The same, with two bytes left over in its payload.
+/// let stated = [&18_u64.to_le_bytes(), &record.bytes()[40..], &[8, 9]].concat();
+/// let old = [&hash(&stated)[..], &stated].concat();
+///
+/// let journal = [record.bytes(), &old].concat();
+/// assert_eq!(scan_journal(&journal).refusal, Some(Refusal::Leftover));
+/// let converted = convert_journal(&journal);
+/// assert_eq!(converted.journal, [record.bytes(), record.bytes()].concat());
+/// assert_eq!(converted.dropped, [Dropped { place: 112, count: 2 }]);
+/// # Ok::<(), Refusal>(())
+/// ```
+///
+/// The example `convert_journal` does so with a file.
+pub fn convert_journal(journal: &[u8]) -> Converted {
+    let mut new = vec![0; journal.len()];
+    let mut list = vec![0; journal.len() / SHORTEST * 16];
+    let [len, listed] = raw::convert_journal(journal, &mut new, &mut list).expect("outputs for all that it may be");
+    new.truncate(len);
+    Converted { journal: new, dropped: Dropped::all(&list[..listed]).collect() }
 }

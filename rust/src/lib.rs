@@ -42,7 +42,7 @@ pub use counters::{
     should_shrink,
 };
 pub use format::{DecodedRecord, EncodedRecord, HASH_LEN, RecordStats, decode_record, encode_items, encode_record, hash};
-pub use journal::{DamagedRecord, JournalEnd, JournalScan, read_journal, scan_journal};
+pub use journal::{Converted, DamagedRecord, Dropped, JournalEnd, JournalScan, convert_journal, read_journal, scan_journal};
 pub use node_box::{NodeBox, RestoreError, Restored, Room};
 pub use refusal::Refusal;
 

@@ -210,3 +210,23 @@ pub fn read_journal(
     })?;
     Ok(JournalEnd { applied: read[0], place: size(read[1]), refusal: Refusal::ended(read[2]) })
 }
+
+/// A journal rewritten without leftovers, as [`crate::convert_journal`] says, into the front of `out`, and the list of what was dropped, for
+/// [`crate::Dropped::all`] to read, into the front of `dropped`: the two lengths. Only [`Refusal::OutputFull`] refuses it, where either is too short,
+/// and then both are as they were. As many bytes as the journal has, and 16 for each 57 of them, are always enough.
+pub fn convert_journal(journal: &[u8], out: &mut [u8], dropped: &mut [u8]) -> Result<[usize; 2], Refusal> {
+    let mut lengths = [0; 2];
+    // SAFETY: slices and arrays, see above.
+    Refusal::of(unsafe {
+        sys::selvaigo_convert_journal(
+            journal.as_ptr(),
+            journal.len(),
+            out.as_mut_ptr(),
+            out.len(),
+            dropped.as_mut_ptr(),
+            dropped.len(),
+            &mut lengths,
+        )
+    })?;
+    Ok(lengths.map(size))
+}

@@ -13,9 +13,9 @@ macro_rules! refusals {
 
         impl Refusal {
             /// All of them, by number.
-            pub const ALL: [Refusal; 21] = [$(Refusal::$name),*];
+            pub const ALL: [Refusal; 22] = [$(Refusal::$name),*];
 
-            /// The refusal of that number; none has 0, which is no refusal, or a number above 21.
+            /// The refusal of that number; none has 0, which is no refusal, or a number above 22.
             pub const fn from_number(number: u8) -> Option<Refusal> {
                 match number {
                     $($number => Some(Refusal::$name),)*
@@ -76,6 +76,8 @@ refusals! {
     Broken = 20, "broken";
     /// A record of a journal is refused with another number than 16.
     Damaged = 21, "damaged";
+    /// Bytes of a record's payload are left over after its last item. It comes after the refusals 16 to 19.
+    Leftover = 22, "leftover";
 }
 
 impl Refusal {
@@ -84,7 +86,7 @@ impl Refusal {
         self as u8
     }
 
-    // What an answer means. The port gives no number above 21: another library was linked.
+    // What an answer means. The port gives no number above 22: another library was linked.
     pub(crate) fn of(answer: u8) -> Result<(), Refusal> {
         match answer {
             0 => Ok(()),

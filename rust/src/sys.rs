@@ -255,4 +255,14 @@ unsafe extern "C" {
         cells_len: usize,
         read: *mut [u64; 3],
     ) -> u8;
+    /// A journal rewritten without leftovers, and the list of what was dropped.
+    pub fn selvaigo_convert_journal(
+        journal: *const u8,
+        journal_len: usize,
+        out: *mut u8,
+        out_len: usize,
+        dropped: *mut u8,
+        dropped_len: usize,
+        lengths: *mut [u64; 2],
+    ) -> u8;
 }

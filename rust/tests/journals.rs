@@ -4,27 +4,14 @@ use std::collections::BTreeMap;
 use std::error::Error;
 
 use selvaigo::{
-    CellNursery, Counters, DamagedRecord, HashBytes, Idx, JournalEnd, JournalScan, NextIdx, NodeBox, NurseryDelta,
-    NurseryEntryRecord, NurseryParts, Refusal, RestoreError, Room, encode_record, hash, raw, read_journal, scan_journal,
+    CellNursery, Counters, DamagedRecord, HashBytes, NextIdx, NodeBox, NurseryParts, Refusal, RestoreError, Room, hash, raw,
+    read_journal, scan_journal,
 };
 
-fn tagged(tag: u8) -> HashBytes {
-    let mut hash = [0; 32];
-    hash[31] = tag;
-    HashBytes(hash)
-}
-
-fn insert(tag: u8, idx: u64, born_round: u32, data: &[u8]) -> NurseryDelta {
-    let entry = NurseryEntryRecord { hash: tagged(tag), idx: Idx::new(idx), born_round, data: data.to_vec() };
-    NurseryDelta { inserts: vec![entry], removes: vec![] }
-}
-
-// Three records: two inserts, and the first of them removed.
-fn three() -> [Vec<u8>; 3] {
-    let deltas =
-        [insert(1, 10, 0, &[0xaa, 0xbb]), insert(2, 11, 1, &[0xcc]), NurseryDelta { inserts: vec![], removes: vec![tagged(1)] }];
-    [1, 2, 3].map(|id| encode_record(id, &deltas[id as usize - 1]).unwrap().bytes().to_vec())
-}
+mod plain;
+mod worked;
+use plain::{Reading, decode, defined, number};
+use worked::{tagged, three};
 
 // A record and tables of so much room, with content that is no state's.
 fn nines(entries: usize, cell_bytes: usize) -> NurseryParts {
@@ -36,9 +23,7 @@ fn nines(entries: usize, cell_bytes: usize) -> NurseryParts {
     }
 }
 
-// The reading, over such tables and into new ones, which agree: the listing that it leaves and where it ended, or the damaged record.
-type Reading = Result<(Vec<NurseryEntryRecord>, JournalEnd), DamagedRecord>;
-
+// The reading, over such tables and into new ones, which agree.
 fn read(journal: &[u8], entries: usize, cell_bytes: usize) -> Reading {
     let mut p = nines(entries, cell_bytes);
     let lent = raw::read_journal(journal, &mut p.nursery, &mut p.entries, &mut p.waiting, &mut p.cells);
@@ -56,84 +41,9 @@ fn read(journal: &[u8], entries: usize, cell_bytes: usize) -> Reading {
     }
 }
 
-// ---- the definition
-
-fn number(bytes: &[u8]) -> u64 {
-    bytes.iter().rev().fold(0, |n, byte| n << 8 | u64::from(*byte))
-}
-
-// The items of a payload from a place on; none where one runs past its end.
-fn items(payload: &[u8]) -> Option<NurseryDelta> {
-    let (mut delta, mut at) = (NurseryDelta::default(), 16);
-    for _ in 0..number(payload.get(8..12)?) {
-        let head = payload.get(at..at + 46)?;
-        let len = number(&head[44..]) as usize;
-        delta.inserts.push(NurseryEntryRecord {
-            hash: HashBytes(head[..32].try_into().unwrap()),
-            idx: Idx::new(number(&head[32..40])),
-            born_round: number(&head[40..44]) as u32,
-            data: payload.get(at + 46..at + 46 + len)?.to_vec(),
-        });
-        at += 46 + len;
-    }
-    for _ in 0..number(payload.get(12..16)?) {
-        delta.removes.push(HashBytes(payload.get(at..at + 32)?.try_into().unwrap()));
-        at += 32;
-    }
-    Some(delta)
-}
-
-// The record that bytes start with: its length and its delta.
-fn decode(bytes: &[u8]) -> Result<(usize, NurseryDelta), Refusal> {
-    let stated = number(bytes.get(32..40).ok_or(Refusal::ShortRecord)?);
-    if stated >= u64::MAX - 7 {
-        return Err(Refusal::FarLength);
-    }
-    let payload = bytes[40..].get(..stated as usize).ok_or(Refusal::ShortRecord)?;
-    if hash(&bytes[32..40 + payload.len()]) != bytes[..32] {
-        return Err(Refusal::Mismatch);
-    }
-    Ok((40 + payload.len(), items(payload).ok_or(Refusal::Misfit)?))
-}
-
-// Records one after another, each given to a step, up to the first that is refused or that the step refuses.
-fn records(journal: &[u8], mut step: impl FnMut(NurseryDelta) -> Result<(), Refusal>) -> JournalScan {
-    let mut scan = JournalScan { records: 0, place: 0, refusal: None };
-    while scan.place < journal.len() {
-        match decode(&journal[scan.place..]).and_then(|(len, delta)| step(delta).map(|()| len)) {
-            Ok(len) => scan = JournalScan { records: scan.records + 1, place: scan.place + len, refusal: None },
-            Err(refusal) => return JournalScan { refusal: Some(refusal), ..scan },
-        }
-    }
-    scan
-}
-
-fn defined(journal: &[u8], entries: usize, cell_bytes: usize) -> (JournalScan, Reading) {
-    let scan = records(journal, |_| Ok(()));
-    if let Some(refusal) = scan.refusal.filter(|refusal| refusal.number() != 16) {
-        return (scan, Err(DamagedRecord { records: scan.records, place: scan.place, refusal }));
-    }
-    let mut all: BTreeMap<HashBytes, NurseryEntryRecord> = BTreeMap::new();
-    let end = records(journal, |delta| {
-        let mut next = all.clone();
-        for e in delta.inserts {
-            if next.insert(e.hash, e).is_some() {
-                return Err(Refusal::Present);
-            }
-        }
-        if next.len() > entries || next.values().map(|e| e.data.len()).sum::<usize>() > cell_bytes {
-            return Err(Refusal::NurseryFull);
-        }
-        delta.removes.iter().for_each(|hash| _ = next.remove(hash));
-        all = next;
-        Ok(())
-    });
-    (scan, Ok((all.into_values().collect(), JournalEnd { applied: end.records, place: end.place, refusal: end.refusal })))
-}
-
 // Scan and reading as defined; the reading.
 fn as_defined(journal: &[u8], entries: usize, cell_bytes: usize) -> Reading {
-    let (scan, reading) = defined(journal, entries, cell_bytes);
+    let (scan, reading) = defined(decode, journal, entries, cell_bytes);
     assert_eq!(scan_journal(journal), scan);
     assert_eq!(scan.damaged(), reading.as_ref().err().copied());
     assert_eq!(read(journal, entries, cell_bytes), reading);
@@ -279,5 +189,5 @@ fn every_changed_bit_under_the_right_hash() {
         };
         *seen.entry(number).or_insert(0) += 1;
     }
-    assert_eq!(seen.into_keys().collect::<Vec<_>>(), [0, 16, 19]);
+    assert_eq!(seen.into_keys().collect::<Vec<_>>(), [0, 16, 19, 22]);
 }

@@ -66,7 +66,7 @@ fn numbers_and_words() {
         assert_eq!(Refusal::from_number(refusal.number()), Some(refusal));
         assert_eq!(refusal.to_string(), refusal.word());
     }
-    assert_eq!((Refusal::from_number(0), Refusal::from_number(22)), (None, None));
+    assert_eq!((Refusal::from_number(0), Refusal::from_number(23)), (None, None));
     assert_eq!((Refusal::OffTotal.number(), Refusal::OffTotal.to_string().as_str()), (4, "off total"));
 }
 
@@ -128,11 +128,30 @@ fn records_sixteen_to_nineteen() {
 }
 
 #[test]
+fn records_twenty_two() {
+    let number = |bytes: &[u8]| decode_record(bytes).unwrap_err().number();
+    assert_eq!(number(&record(17, &[0; 17])), 22);
+    assert_eq!(number(&record(48, &[0; 48])), 22);
+    // After all others.
+    let mut wrong = record(17, &[0; 17]);
+    assert_eq!(number(&wrong[..56]), 16);
+    wrong[56] ^= 1;
+    assert_eq!(number(&wrong), 18);
+    assert_eq!(number(&record(17, &[0, 0, 0, 0, 0, 0, 0, 0, 1, 0, 0, 0, 0, 0, 0, 0, 0])), 19);
+    // What a call is lent may go on after its items.
+    let items = DeltaItems::borrowed(0, 1, &[1; 33]);
+    let mut out = [7; 89];
+    let (len, _) = encode_items(0, &items, &mut out).unwrap();
+    assert_eq!((len, out[88], decode_record(&out).unwrap().items.bytes.len()), (88, 7, 32));
+    assert_eq!(CellNursery::new(0, 0).apply_items(&items), Ok(()));
+}
+
+#[test]
 fn journals_twenty_one() {
-    // A hash that is wrong, a length that is too far, and items that run past theirs, each behind a record that is taken.
+    // A hash that is wrong, a length that is too far, items that run past theirs, and items that end before it, each behind a record that is taken.
     let mut wrong = record(16, &[0; 16]);
     wrong[0] ^= 1;
-    let bad = [(wrong, 18), (record(u64::MAX - 7, &[]), 17), (record(15, &[0; 15]), 19)];
+    let bad = [(wrong, 18), (record(u64::MAX - 7, &[]), 17), (record(15, &[0; 15]), 19), (record(17, &[0; 17]), 22)];
     for (bad, number) in bad {
         let first = encode_record(0, &insert(1, vec![1])).unwrap();
         let journal = [first.bytes(), &bad].concat();
@@ -251,6 +270,24 @@ fn values_beside_a_refusal_are_zeros() {
     };
     assert_eq!((answer, read), (21, [0; 3]));
     assert_eq!((nursery, entries, waiting, cells), ([9; 3], [9; 8], [9; 5], [9; 1]));
+    // A conversion whose first output, or whose second, is too short by a byte.
+    let journal = record(17, &[0; 17]);
+    for (out_len, dropped_len) in [(55, 16), (56, 15)] {
+        let (mut out, mut dropped, mut lengths) = ([9; 57], [9; 17], [9; 2]);
+        // SAFETY: slices and arrays.
+        let answer = unsafe {
+            sys::selvaigo_convert_journal(
+                journal.as_ptr(),
+                journal.len(),
+                out.as_mut_ptr(),
+                out_len,
+                dropped.as_mut_ptr(),
+                dropped_len,
+                &mut lengths,
+            )
+        };
+        assert_eq!((answer, lengths, out, dropped), (15, [0; 2], [9; 57], [9; 17]));
+    }
 }
 
 #[test]
