@@ -7,7 +7,7 @@ use std::sync::Arc;
 
 use rayon::ThreadPool;
 
-use crate::definition::{self, Counters, Drained, Ended, Nursery};
+use crate::definition::{self, Counters, Drained, Ended, Nursery, decode, parse};
 use crate::port::Port;
 use crate::roaring::{Broken, Bytes};
 use crate::steps::{Delta, Hash, Insert, KINDS, Room, Sizes, Step};
@@ -17,9 +17,13 @@ use crate::storage::shard_state::original::Original;
 #[derive(Clone, Default)]
 pub struct Tally {
     pub steps: [u64; KINDS.len()],
-    pub refused: [u64; 22],
+    pub refused: [u64; 23],
     /// How journals were read, and the number that ended them or that the damaged record is refused with.
     pub journals: BTreeMap<(&'static str, u8), u64>,
+    /// Journals that were converted, by whether they had leftovers and by the number that their records end with, leftovers or not.
+    pub converted: BTreeMap<(&'static str, u8), u64>,
+    /// Records with leftovers among them.
+    pub dropped: u64,
     /// Steps that meet a difference of docs/DIFFERENCES.md, by its number there and by what the original did.
     pub known: BTreeMap<(&'static str, &'static str), u64>,
     pub transitions: u64,
@@ -40,6 +44,8 @@ impl Tally {
         self.steps.iter_mut().zip(other.steps).for_each(|(a, b)| *a += b);
         self.refused.iter_mut().zip(other.refused).for_each(|(a, b)| *a += b);
         other.journals.iter().for_each(|(how, n)| *self.journals.entry(*how).or_default() += n);
+        other.converted.iter().for_each(|(what, n)| *self.converted.entry(*what).or_default() += n);
+        self.dropped += other.dropped;
         other.known.iter().for_each(|(what, n)| *self.known.entry(*what).or_default() += n);
         self.transitions += other.transitions;
         self.items += other.items;
@@ -450,16 +456,25 @@ impl Sides {
         let d = port.map_err(|n| format!("port: a record is refused with {n}"))?;
         same("port", "record", &(d.id, d.hash, d.stats), &(wanted.id, wanted.hash, wanted.stats))?;
         same("port", "items", &d.items, &&bytes[56..40 + wanted.payload])?;
+        self.original_takes(bytes, &wanted)
+    }
+
+    fn original_takes(&mut self, bytes: &[u8], wanted: &definition::Decoded) -> Compared {
         let theirs = self.original.decode_record(bytes).map_err(|e| format!("original: a record is refused: {e}"))?;
         same("original", "record", &(theirs.id, theirs.hash, theirs.stats), &(wanted.id, wanted.hash, wanted.stats))?;
         same("original", "record's delta", &theirs.delta, &wanted.delta)?;
         same("original", "bytes left", &theirs.unread, &(bytes.len() - 40 - wanted.payload))
     }
 
-    /// What the original makes of a record that document 01 refuses.
+    /// What the original makes of a record that the port refuses.
     fn original_refuses(&mut self, bytes: &[u8], number: u8) -> Compared {
         let stated = definition::stated(bytes).unwrap_or(0);
         let panics = match number {
+            22 => {
+                self.tally.know("R7", "takes it");
+                let wanted = definition::parse(bytes, &Original::hash).map_err(|n| format!("definition: {n} and 22"))?;
+                return self.original_takes(bytes, &wanted);
+            }
             16 if stated >= (1 << 63) - 8 => Some("R5"),
             16 if stated > 1 << 20 => {
                 self.tally.know("R6", "not run");
@@ -499,9 +514,10 @@ impl Sides {
 
     fn read_journal(&mut self, journal: Vec<u8>, keep: bool) -> Compared {
         self.tally.bytes += journal.len() as u64;
-        let scan = definition::scan(&journal, &Original::hash);
+        self.convert(&journal)?;
+        let scan = definition::scan(decode, &journal, &Original::hash);
         same("port", "scan", &Port::scan_journal(&journal), &scan)?;
-        let wanted = definition::read_journal(&journal, &self.sizes, &Original::hash);
+        let wanted = definition::read_journal(decode, &journal, &self.sizes, &Original::hash);
         let port = self.port.read_journal(&journal, &self.sizes, keep);
         let said = wanted.as_ref().map(|(nursery, ended)| (*ended, bytes_of(&nursery.listing()))).map_err(|number| *number);
         self.answered(port, said)?;
@@ -532,13 +548,56 @@ impl Sides {
         self.nursery_totals()
     }
 
-    /// A journal that is refused: the original takes the records before the damaged one, and refuses that. All else is as before.
+    /// The port's new journal and list are the definition's, or a short output is refused and neither is touched.
+    fn convert(&mut self, journal: &[u8]) -> Compared {
+        let (new, dropped) = definition::convert(journal, &Original::hash);
+        let list: Vec<u8> = dropped.iter().flatten().flat_map(|n| n.to_le_bytes()).collect();
+        for (room, list_room) in [(Room::Exact, Room::Exact), (Room::More, Room::Less), (Room::Less, Room::More)] {
+            let (mut out, mut listed) = (output(new.len(), room), output(list.len(), list_room));
+            let refused = out.len() < new.len() || listed.len() < list.len();
+            let answer = Port::convert_journal(journal, &mut out, &mut listed);
+            self.answered(answer, if refused { Err(15) } else { Ok([new.len(), list.len()]) })?;
+            let wanted = if refused { [&[][..], &[]] } else { [&new[..], &list] };
+            for (what, out, wanted) in [("new journal", out, wanted[0]), ("list of what is dropped", listed, wanted[1])] {
+                same("port", what, &&out[..wanted.len()], &wanted)?;
+                same("port", "output beyond the answer", &out[wanted.len()..].iter().all(|b| *b == BEFORE), &true)?;
+            }
+        }
+        let ended = definition::scan(parse, journal, &Original::hash).2;
+        let what = if dropped.is_empty() { "without leftovers" } else { "with leftovers" };
+        *self.tally.converted.entry((what, ended)).or_default() += 1;
+        self.tally.dropped += dropped.len() as u64;
+        if dropped.is_empty() {
+            return same("definition", "new journal", &&new[..], &journal);
+        }
+        self.same_records(journal, &new, &dropped)
+    }
+
+    /// The old journal means to the original what the new one means to it and to the port.
+    fn same_records(&mut self, old: &[u8], new: &[u8], dropped: &[[u64; 2]]) -> Compared {
+        let moved = |(records, place, number): Ended| {
+            let before = dropped.iter().filter(|d| d[0] < place as u64);
+            (records, place - before.map(|d| d[1] as usize).sum::<usize>(), number)
+        };
+        let scan = moved(definition::scan(parse, old, &Original::hash));
+        same("port", "scan of the new journal", &Port::scan_journal(new), &scan)?;
+        let (nursery, ended) = definition::apply(parse, old, &self.sizes, &Original::hash);
+        let (listing, after) = (nursery.listing(), moved(ended));
+        let theirs = self.original.read_records(old, ended.0, false);
+        same("original", "old journal", &theirs, &Ok((listing.clone(), ended.1)))?;
+        let theirs = self.original.read_records(new, ended.0, false);
+        same("original", "new journal", &theirs, &Ok((listing.clone(), after.1)))?;
+        let wanted = if matches!(scan.2, 0 | 16) { Ok((after, bytes_of(&listing))) } else { Err(21) };
+        same("port", "new journal", &self.port.read_journal(new, &self.sizes, false), &wanted)
+    }
+
+    /// A journal that is refused: the original takes the records before the damaged one, and refuses that, but for leftovers. All else is as before.
     fn journal_damaged(&mut self, journal: &[u8], scan: Ended) -> Compared {
         let (records, place, number) = scan;
         same("port", "damaged record", &Port::damaged_record(journal), &Some(scan))?;
         same("original", "records before a damaged one", &self.original.take_records(journal, records), &Ok(place))?;
         self.original_refuses(&journal[place..], number)?;
-        let before = definition::read_journal(&journal[..place], &self.sizes, &Original::hash).expect("no damage before it").1;
+        let before = definition::apply(decode, &journal[..place], &self.sizes, &Original::hash).1;
         let how = match (records, before.2) {
             (0, _) => "damaged, the first record",
             (_, 0) => "damaged, behind records",

@@ -1,4 +1,4 @@
-//! Document 01 in plain Rust: what each call has to answer. The generator takes from it what keeps the callers' contract, and the
+//! Document 01 in plain Rust, with P1 and P4 of document 02: what each call has to answer. The generator takes from it what keeps the callers' contract, and the
 //! comparison what the port has to say where the original panics or takes what it shouldn't.
 use std::collections::{BTreeMap, BTreeSet};
 
@@ -323,13 +323,15 @@ pub fn items(delta: &Delta, wide: bool) -> Vec<u8> {
     out
 }
 
-/// What a record says, by document 01's rules.
+/// What a record says.
 pub struct Decoded {
     pub id: u64,
     pub hash: Hash,
     pub stats: [u64; 5],
     pub delta: Delta,
     pub payload: usize,
+    /// Bytes of the payload after its last item.
+    pub leftover: usize,
 }
 
 /// The stated length, where there are 40 bytes.
@@ -337,7 +339,14 @@ pub fn stated(bytes: &[u8]) -> Option<u64> {
     (bytes.len() >= 40).then(|| u64::from_le_bytes(bytes[32..40].try_into().unwrap()))
 }
 
-pub fn decode(bytes: &[u8], hash: &dyn Fn(&[u8]) -> Hash) -> Refused<Decoded> {
+/// How a record is hashed.
+type Hashes<'a> = &'a dyn Fn(&[u8]) -> Hash;
+
+/// How a record is read: one of the two below.
+pub type Rule = fn(&[u8], Hashes) -> Refused<Decoded>;
+
+/// By document 01 alone: what a payload has after its last item is passed over. So the original reads.
+pub fn parse(bytes: &[u8], hash: Hashes) -> Refused<Decoded> {
     let len = stated(bytes).ok_or(16u8)?;
     if len >= u64::MAX - 7 {
         return Err(17);
@@ -351,7 +360,12 @@ pub fn decode(bytes: &[u8], hash: &dyn Fn(&[u8]) -> Hash) -> Refused<Decoded> {
     let delta = read_items(&mut s, inserts, removes).ok_or(19u8)?;
     let cells: usize = delta.inserts.iter().map(|i| i.cell.len()).sum();
     let stats = [len, 16 + 46 * inserts + 32 * removes, cells as u64, inserts, removes];
-    Ok(Decoded { id, hash: bytes[..32].try_into().unwrap(), stats, delta, payload: payload.len() })
+    Ok(Decoded { id, hash: bytes[..32].try_into().unwrap(), stats, delta, payload: payload.len(), leftover: s.0.len() })
+}
+
+/// With P4 of document 02: such leftovers are refused.
+pub fn decode(bytes: &[u8], hash: Hashes) -> Refused<Decoded> {
+    parse(bytes, hash).and_then(|d| if d.leftover == 0 { Ok(d) } else { Err(22) })
 }
 
 /// The id and the two list lengths of a payload.
@@ -376,10 +390,10 @@ fn read_items(s: &mut Bytes, inserts: u64, removes: u64) -> Option<Delta> {
 pub type Ended = (usize, usize, u8);
 
 /// Records one after another, each given to a step, up to the first that is refused or whose step is.
-fn records(journal: &[u8], hash: &dyn Fn(&[u8]) -> Hash, mut step: impl FnMut(&Delta) -> Refused<()>) -> Ended {
+fn records(rule: Rule, journal: &[u8], hash: Hashes, mut step: impl FnMut(&Delta) -> Refused<()>) -> Ended {
     let (mut records, mut place) = (0, 0);
     while place < journal.len() {
-        match decode(&journal[place..], hash).and_then(|d| step(&d.delta).map(|()| d.payload)) {
+        match rule(&journal[place..], hash).and_then(|d| step(&d.delta).map(|()| d.payload)) {
             Ok(payload) => place += 40 + payload,
             Err(number) => return (records, place, number),
         }
@@ -389,16 +403,39 @@ fn records(journal: &[u8], hash: &dyn Fn(&[u8]) -> Hash, mut step: impl FnMut(&D
 }
 
 /// The first pass over a journal: records that are taken, whatever their deltas are.
-pub fn scan(journal: &[u8], hash: &dyn Fn(&[u8]) -> Hash) -> Ended {
-    records(journal, hash, |_| Ok(()))
+pub fn scan(rule: Rule, journal: &[u8], hash: Hashes) -> Ended {
+    records(rule, journal, hash, |_| Ok(()))
+}
+
+/// The second: their deltas, into an empty nursery.
+pub fn apply(rule: Rule, journal: &[u8], sizes: &Sizes, hash: Hashes) -> (Nursery, Ended) {
+    let mut nursery = Nursery::default();
+    let ended = records(rule, journal, hash, |delta| nursery.apply_commit(delta, sizes));
+    (nursery, ended)
 }
 
 /// A journal, read into an empty nursery. A record that is refused and not cut refuses the reading.
-pub fn read_journal(journal: &[u8], sizes: &Sizes, hash: &dyn Fn(&[u8]) -> Hash) -> Refused<(Nursery, Ended)> {
-    if !matches!(scan(journal, hash).2, 0 | 16) {
+pub fn read_journal(rule: Rule, journal: &[u8], sizes: &Sizes, hash: Hashes) -> Refused<(Nursery, Ended)> {
+    if !matches!(scan(rule, journal, hash).2, 0 | 16) {
         return Err(21);
     }
-    let mut nursery = Nursery::default();
-    let ended = records(journal, hash, |delta| nursery.apply_commit(delta, sizes));
-    Ok((nursery, ended))
+    Ok(apply(rule, journal, sizes, hash))
+}
+
+/// A journal without leftovers: its bytes, and the place and the number of those that were dropped. From the first record that document 01 refuses
+/// on all is as it was.
+pub fn convert(journal: &[u8], hash: Hashes) -> (Vec<u8>, Vec<[u64; 2]>) {
+    let (mut new, mut dropped, mut place) = (Vec::new(), Vec::new(), 0);
+    while let Ok(d) = parse(&journal[place..], hash) {
+        let used = d.payload - d.leftover;
+        let stated = [&(used as u64).to_le_bytes(), &journal[place + 40..][..used]].concat();
+        new.extend(hash(&stated));
+        new.extend(stated);
+        if d.leftover > 0 {
+            dropped.push([place + 40 + used, d.leftover].map(|n| n as u64));
+        }
+        place += 40 + d.payload;
+    }
+    new.extend(&journal[place..]);
+    (new, dropped)
 }

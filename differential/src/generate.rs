@@ -60,7 +60,7 @@ pub struct Run {
     round: u32,
     longest_cell: u64,
     weights: [u64; 20],
-    /// Whether journals get more records behind them.
+    /// Whether journals get more records behind them, and records leftovers.
     more: bool,
     /// Rounds and hashes that were inserted: the checked original panics where such a pair waits twice.
     inserted: BTreeSet<(u32, Hash)>,
@@ -460,9 +460,12 @@ impl Run {
         Original::encode_record(id, &delta).0
     }
 
-    /// The bytes of a record, whole, with more behind it, or damaged; half of the damaged ones with the right hash.
+    /// The bytes of a record, whole, with leftovers, with more behind it, or damaged; half of the damaged ones with the right hash.
     fn record(&mut self) -> Vec<u8> {
         let mut bytes = self.whole_record();
+        if self.more && self.r.chance(10) {
+            self.leave_over(&mut bytes);
+        }
         match self.r.below(10) {
             0..2 => {}
             2 => self.damage_end(&mut bytes),
@@ -481,11 +484,14 @@ impl Run {
         bytes
     }
 
-    /// Records behind a journal, whose hashes may be in the nursery there; half of them are whole.
+    /// Records behind a journal, whose hashes may be in the nursery there; half of them are whole. Sometimes they are from the time of leftovers.
     fn records(&mut self) -> Vec<u8> {
-        let mut all = Vec::new();
+        let (mut all, leftovers) = (Vec::new(), if self.r.chance(50) { 50 } else { 0 });
         for _ in 0..1 + self.r.size(4) {
             let mut bytes = self.whole_record();
+            if self.r.chance(leftovers) {
+                self.leave_over(&mut bytes);
+            }
             match self.r.below(8) {
                 0 => self.restate(&mut bytes),
                 1 => self.recount(&mut bytes),
@@ -502,6 +508,16 @@ impl Run {
         let n = 1 + self.r.size(90);
         let more = self.r.bytes(n);
         bytes.extend(more);
+    }
+
+    /// Bytes after the last item, within the payload: any, or a record.
+    fn leave_over(&mut self, bytes: &mut Vec<u8>) {
+        let n = self.r.pick(&[1, 1, 2, 8, 16, 31, 32, 46, 90]);
+        let more = if self.r.chance(20) { self.whole_record() } else { self.r.bytes(n) };
+        bytes.extend(more);
+        let len = bytes.len() as u64 - 40;
+        bytes[32..40].copy_from_slice(&len.to_le_bytes());
+        rehash(bytes);
     }
 
     /// Another length than the true one.

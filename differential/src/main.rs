@@ -182,6 +182,13 @@ fn print(tally: &Tally, runs: u64, start: Instant) {
     for ((how, number), n) in &tally.journals {
         println!("  {how:<34}{number:>2}{n:>12}");
     }
+    println!(
+        "journals converted, {} records with leftovers among them, with the number that their records end with:",
+        tally.dropped
+    );
+    for ((what, number), n) in &tally.converted {
+        println!("  {what:<34}{number:>2}{n:>12}");
+    }
     println!("known differences met, by their numbers in docs/DIFFERENCES.md:");
     for ((name, theirs), n) in &tally.known {
         println!("  {name:<14}{n:>12}  the original {theirs}");

@@ -1,7 +1,8 @@
 //! The port's side: the crate `selvaigo` over tables of the run's sizes. A call that changes nothing is made in both forms, held and
 //! checked, which have to agree; the others are made in the form that the run names. A checked call's tables are judged again after it.
 use selvaigo::{
-    CellNursery, CounterTransition, Counters, DeltaItems, HashBytes, Idx, NextIdx, NurseryParts, PromotedCell, Refusal, raw, sys,
+    CellNursery, CounterTransition, Counters, DeltaItems, Dropped, HashBytes, Idx, NextIdx, NurseryParts, PromotedCell, Refusal,
+    raw, sys,
 };
 
 use crate::definition::{Drained, Ended, Refused, items};
@@ -219,6 +220,17 @@ impl Port {
         let damaged = selvaigo::read_journal(journal, 0, 0).err()?;
         assert_eq!(damaged.number(), 21);
         Some((damaged.records as usize, damaged.place, damaged.refusal.number()))
+    }
+
+    /// The new journal and the list of what was dropped into the two outputs, in both forms: the lengths.
+    pub fn convert_journal(journal: &[u8], out: &mut [u8], dropped: &mut [u8]) -> Refused<[usize; 2]> {
+        let lengths = number(raw::convert_journal(journal, out, dropped));
+        if let Ok([len, listed]) = lengths {
+            let owned = selvaigo::convert_journal(journal);
+            assert!(owned.journal == out[..len], "the port's two new journals differ");
+            assert_eq!(owned.dropped, Dropped::all(&dropped[..listed]).collect::<Vec<_>>());
+        }
+        lengths
     }
 
     /// How the journal was read, and the listing of what it made. That is the nursery from here on, if it is to be kept; then the tables that are lent are those

@@ -32,6 +32,7 @@ pub fn run(run: Run) {
             compare_records::journal(&run, shared, records, inserts, cell);
         }
         run.foot();
+        compare_records::conversions(&run);
     });
 }
 

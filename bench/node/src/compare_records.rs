@@ -1,4 +1,4 @@
-// The hash, records, and a journal.
+// The hash, records, a journal, and its conversion.
 use std::hint::black_box;
 use std::num::NonZeroUsize;
 use std::sync::Arc;
@@ -97,4 +97,47 @@ pub fn journal(run: &Run, pool: &Arc<ThreadPool>, records: u64, inserts: u64, ce
     });
     let theirs = side(1, || drop(black_box(original())));
     run.line(&what, [ours, theirs]);
+}
+
+// Journals of 100 MB, of short records and of long ones, without leftovers and with 8 bytes of them in each.
+pub fn conversions(run: &Run) {
+    let shapes = [1, 1_000].map(|inserts| (inserts, 56 + 146 * inserts));
+    let names = shapes.map(|(_, len)| format!("convert, 100 MB by {} bytes", with_commas(len)));
+    if !names.iter().any(|what| run.wanted(what)) {
+        return;
+    }
+    run.head_of_conversions();
+    for ((inserts, len), what) in shapes.into_iter().zip(&names) {
+        let record = |i: u64| {
+            let items = items_of(&(i * inserts..(i + 1) * inserts).map(insert).collect::<Vec<_>>());
+            let mut out = vec![0; len as usize];
+            encode_items(i, &DeltaItems::borrowed(inserts, 0, &items), &mut out).unwrap();
+            out
+        };
+        let new: Vec<u8> = (0..100_000_000 / len).flat_map(record).collect();
+        let old: Vec<u8> = new.chunks(len as usize).flat_map(with_leftovers).collect();
+        for (journal, leftovers) in [(&new, false), (&old, true)] {
+            let what = format!("{what}{}", if leftovers { ", 8 left over in each" } else { "" });
+            if run.wanted(&what) {
+                conversion(run, &what, journal, &new, if leftovers { len as usize + 8 } else { len as usize });
+            }
+        }
+    }
+}
+
+fn with_leftovers(record: &[u8]) -> Vec<u8> {
+    let stated = [&(record.len() as u64 - 32).to_le_bytes(), &record[40..], &[7; 8]].concat();
+    [&selvaigo::hash(&stated)[..], &stated].concat()
+}
+
+fn conversion(run: &Run, what: &str, journal: &[u8], new: &[u8], len: usize) {
+    let (mut out, mut dropped) = (vec![0; journal.len()], vec![0; journal.len() / 57 * 16]);
+    let [written, listed] = raw::convert_journal(journal, &mut out, &mut dropped).unwrap();
+    assert!(out[..written] == *new, "the new journal isn't the one without leftovers");
+    assert_eq!(listed, if written < journal.len() { 16 * (journal.len() / len) } else { 0 });
+
+    let ours = side(1, || _ = black_box(raw::convert_journal(journal, &mut out, &mut dropped)));
+    let whole = side(1, || _ = black_box(selvaigo::hash(black_box(journal))));
+    let each = side(1, || journal.chunks(len).for_each(|record| _ = black_box(selvaigo::hash(black_box(&record[32..])))));
+    run.conversion(what, [ours, whole, each]);
 }

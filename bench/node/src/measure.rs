@@ -83,6 +83,12 @@ impl Run {
         println!("{} lines; in each of them both sides gave the same answers.", self.lines.get());
     }
 
+    pub fn head_of_conversions(&self) {
+        println!(
+            "\n| µs a call | port | hashing it once | hashing each record once | times the hashing | times that of each |\n|---|---|---|---|---|---|"
+        );
+    }
+
     // The sides take turns of a millisecond or one call, for about a second in all, with what prepares them; a first turn that takes longer than
     // that is a side's only one.
     fn medians(&self, sides: &mut [Side<'_>]) -> Vec<f64> {
@@ -115,5 +121,19 @@ impl Run {
             _ => ("—".into(), "—".into()),
         };
         println!("| {what} | {} | {checked} | {} | {} | {behind} |", short(port), short(original), short(original / port));
+    }
+
+    // What the original has no call for: the port's side, and two that it is measured by.
+    pub fn conversion(&self, what: &str, mut sides: [Side<'_>; 3]) {
+        let us = self.medians(&mut sides);
+        let [port, whole, each] = [us[0], us[1], us[2]];
+        println!(
+            "| {what} | {} | {} | {} | {} | {} |",
+            short(port),
+            short(whole),
+            short(each),
+            short(port / whole),
+            short(port / each)
+        );
     }
 }
