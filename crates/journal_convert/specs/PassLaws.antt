@@ -1,7 +1,7 @@
 -- Records in turn: what holds between two of them in either pass, and how each pass ends.
 -- Assumes nothing.
 use mathlib.Core.Path.{_≡_, refl, sym, ap, _∙_}
-use mathlib.Core.List.{List, [], _++_}
+use mathlib.Core.List.{List, []}
 use Prim.Native.Nat.{ℕ, _+_, _-_, _≤_, _<_}
 use native.Mathlib.Omega.{arith}
 use lib.ListN.{length, take, drop, length-append, length-drop}
@@ -12,9 +12,9 @@ use Rattle.base.specs.Answers.{Outcome, refused, taken}
 use Rattle.base.specs.AnswerLaws.{not-refused}
 use Rattle.base.specs.declared.Refusal.{Refusal}
 use Rattle.base.specs.declared.Answer.the-variants.{Taken, Refused}
-use Rattle.slices.specs.Laws.{length-part, paste-start}
+use Rattle.slices.specs.Laws.{length-part}
 use Rattle.slices.specs.Places.{putAt}
-use Rattle.slices.specs.PlaceLaws.{putAt-none, length-putAt, putAt-append}
+use Rattle.slices.specs.PlaceLaws.{putAt-none, Filling, filling-start, filling-next, filled}
 use Rattle.format.specs.declared.Decoded.{Decoded}
 use Rattle.format.specs.Record.{Decoding, usedBytes, parse}
 use Rattle.format.specs.Calls.{decodedOf, parseCall}
@@ -26,34 +26,6 @@ use Rattle.journal_convert.specs.Rewriting.{listBytes, sizesOf, keptOf, 
 use Rattle.journal_convert.specs.StopLaws.{stopIn, stop-refused, stop-later, stop-here}
 use Rattle.journal_convert.specs.PutLaws.{length-sealed, listed-most}
 use Rattle.journal_convert.specs.RecordLaws.{ahead, stopAhead, Turn, turn}
-
--- ---- an output that is filled from its start: what is left, put at a place, gives what is wanted
-
-pub record Filling (start t : List ℕ) (at : ℕ) (left whole : List ℕ) : Type 0 where
-  pub same : length t ≡ length start
-  pub room : at + length left ≤ length t
-  pub done : putAt t at left ≡ putAt start 0 whole
-
-filling-start : (start whole : List ℕ) → length whole ≤ length start → Filling start start 0 whole whole
-filling-start start whole h = record { same = refl; room = omega arith; done = refl }
-
-module _ (start t : List ℕ) (at : ℕ) (left whole : List ℕ) (f : Filling start t at left whole) where
-  -- one more part of it
-  filling-next : (x rest two : List ℕ) (k : ℕ) → left ≡ x ++ rest → length x ≡ k → two ≡ putAt t at x → Filling start two (at + k) rest whole
-  filling-next x rest two k e l p =
-      let n : length left ≡ k + length rest = ap length e ∙ length-append x rest ∙ rw l in
-      let same : length two ≡ length t = ap length p ∙ length-putAt t at x (omega (arith, f .room)) in
-      record {
-        same = same ∙ f .same;
-        room = omega (arith, f .room);
-        done = rw (p, ← l) (putAt-append t at x rest (omega (arith, f .room))) ∙ ap (putAt t at) (sym e) ∙ f .done;
-      }
-
-  -- all of it
-  filled : (two : List ℕ) → two ≡ putAt t at left → two ≡ overlay whole start
-  filled two p = p ∙ f .done ∙ paste-start start whole (length whole) refl
-
--- ---- the journal's passes
 
 module _ (hash : List ℕ → List ℕ) (s : List ℕ) where
   -- between two records of the first pass: what is measured and what is ahead make the sizes that are wanted

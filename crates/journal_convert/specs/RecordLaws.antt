@@ -13,7 +13,7 @@ use Rattle.base.specs.SpellLaws.{Bytes}
 use Rattle.base.specs.Answers.{taken}
 use Rattle.slices.specs.Laws.{part-front}
 use Rattle.format.specs.Payload.{payloadBytes}
-use Rattle.format.specs.Record.{Decoding, sealed, recordBytes, usedBytes, leftover, parse}
+use Rattle.format.specs.Record.{Decoding, recordBytes, usedBytes, leftover, parse}
 use Rattle.format.specs.ExactLaws.{Spelled, parsed, parse-exact}
 use Rattle.journal.specs.Convert.{droppedBytes, Conversion, droppedAt, anew}
 use Rattle.journal.specs.ConvertLaws.{convertIn, convert-taken}
