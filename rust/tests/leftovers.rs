@@ -208,6 +208,21 @@ fn what_stands_behind_the_first_refused_record_stays() {
     assert_eq!(as_defined(&journal, 3, 9), Converted { journal, dropped: vec![] });
 }
 
+#[test]
+fn places_and_counts_beyond_two_bytes() {
+    let cell = |hash: u8, len: usize| NurseryDelta {
+        inserts: vec![NurseryEntryRecord { hash: HashBytes([hash; 32]), idx: Idx::new(1), born_round: 2, data: vec![hash; len] }],
+        removes: vec![],
+    };
+    let (first, second) = (encoded(1, &cell(1, 65_535)), encoded(2, &cell(2, 65_535)));
+    let journal = [with(&first, &[7]), with(&second, &[8; 70_000]), first[..99].to_vec()].concat();
+    let new = as_defined(&journal, 2, 131_070);
+    assert_eq!(new.journal, [&first[..], &second, &first[..99]].concat());
+    // A record of one insert has 102 bytes beside its cell.
+    let (one, two) = (65_637, 2 * 65_637 + 1);
+    assert_eq!(new.dropped, [Dropped { place: one, count: 1 }, Dropped { place: two, count: 70_000 }]);
+}
+
 // ---- every one
 
 // A journal with leftovers in its second and its third record.
