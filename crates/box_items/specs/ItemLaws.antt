@@ -99,12 +99,12 @@ none-after a b h = go (eqb a b) refl
     go false e = ne-eqb (b - a) 0 (λ z. eqb-false a b e (omega arith))
 
 module _ (n x y : ℕ) (items : List ℕ) (whole : n ≡ 16 + length items) (fit : itemsFit 2 x y items ≡ true) where
-  pub items-leave : leftover (statsOf n (deltaIn 2 x y items)) ≡ length items - (insertsLen 2 x items + 32 * y)
+  items-leave : leftover (statsOf n (deltaIn 2 x y items)) ≡ length items - (insertsLen 2 x items + 32 * y)
   unfolding leftover statsOf deltaIn
   items-leave =
       rw (length-inserts 2 x items, length-hashes y (drop (insertsLen 2 x items) items)) (omega (arith, inserts-cells 2 x items (fit-inserts 2 x y items fit)))
 
-  pub nothing-left : eqb (leftover (statsOf n (deltaIn 2 x y items))) 0 ≡ itemsFill x y items
+  nothing-left : eqb (leftover (statsOf n (deltaIn 2 x y items))) 0 ≡ itemsFill x y items
   unfolding itemsFill
   nothing-left = rw (items-leave, fit) (none-after (insertsLen 2 x items + 32 * y) (length items) (fit-removes 2 x y items fit))
 

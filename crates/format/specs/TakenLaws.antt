@@ -1,6 +1,6 @@
 -- A record that is taken: its payload lies in the bytes, and its items are the delta that it was decoded to, in the form that a delta is lent in.
 -- Assumes nothing.
-use mathlib.Core.Path.{_≡_, refl, sym, ap, _∙_}
+use mathlib.Core.Path.{_≡_, ap, _∙_}
 use mathlib.Core.Option.{some}
 use mathlib.Core.List.{List}
 use Prim.Native.Nat.{ℕ, _+_, _-_, _≤_}
@@ -8,14 +8,11 @@ use native.Mathlib.Omega.{arith}
 use lib.ListN.{length, take, drop}
 use lib.Seq.{drop-drop}
 use Rattle.base.specs.Bytes.{unle}
-use Rattle.base.specs.Answers.{Outcome, refused, taken}
-use Rattle.base.specs.AnswerLaws.{not-refused}
-use Rattle.base.specs.declared.Answer.the-variants.{Taken}
+use Rattle.base.specs.Answers.{taken}
 use Rattle.slices.specs.Laws.{length-part, drop-take}
 use Rattle.cell_nursery.specs.Items.{deltaOf}
 use Rattle.cell_nursery.specs.ItemLaws.{delta-counts}
-use Rattle.format.specs.Record.{Decoding, statsOf, parse, decode}
-use Rattle.format.specs.Calls.{decodedOf}
+use Rattle.format.specs.Record.{Decoding, statsOf, decode}
 use Rattle.format.specs.RefusalLaws.{stated, payload, payload-some, parse-taken, decode-taken}
 
 pub record Lent (bs : List ℕ) (x : Decoding) : Type 0 where
@@ -23,10 +20,10 @@ pub record Lent (bs : List ℕ) (x : Decoding) : Type 0 where
   pub inside : 40 + x .stats .«payload_bytes» ≤ length bs
   pub items : deltaOf 2 (x .stats .«insert_ops») (x .stats .«remove_ops») (take (x .stats .«payload_bytes» - 16) (drop 56 bs)) ≡ some (x .delta)
 
-pub parsed-lent : (hash : List ℕ → List ℕ) (bs : List ℕ) (x : Decoding) → parse hash bs ≡ taken x → Lent bs x
+pub taken-lent : (hash : List ℕ → List ℕ) (bs : List ℕ) (x : Decoding) → decode hash bs ≡ taken x → Lent bs x
 unfolding statsOf
-parsed-lent hash bs x e =
-    let (whole, matches, (p, i, same)) = parse-taken hash bs x .0 e in
+taken-lent hash bs x e =
+    let (whole, matches, (p, i, same)) = parse-taken hash bs x .0 (decode-taken hash bs x .0 e .0) in
     let (long, items, id) = payload-some (payload bs) p .0 i in
     let n : ℕ = stated bs in
     let size : length (payload bs) ≡ n = length-part bs 40 n (whole .1) in
@@ -35,12 +32,3 @@ parsed-lent hash bs x e =
     let rest : drop 16 (payload bs) ≡ take (n - 16) (drop 56 bs) =
     ap (λ (j : ℕ). drop 16 (take j (drop 40 bs))) k ∙ drop-take 16 (n - 16) (drop 40 bs) ∙ ap (λ (l : List ℕ). take (n - 16) l) (drop-drop 16 40 bs) in
     rw same (record { head = omega arith; inside = whole .1; items = rw (counts .0, counts .1, ← rest) items })
-
-pub taken-lent : (hash : List ℕ → List ℕ) (bs : List ℕ) (x : Decoding) → decode hash bs ≡ taken x → Lent bs x
-taken-lent hash bs x e = parsed-lent hash bs x (decode-taken hash bs x .0 e .0)
-
--- by the answer of a call
-pub answer-taken : (o : Outcome Decoding) → decodedOf o .answer ≡ Taken → (x : Decoding) × (o ≡ taken x)
-unfolding decodedOf
-answer-taken (refused r) e = absurd (not-refused (sym e))
-answer-taken (taken x) e = (x, refl)

@@ -56,7 +56,7 @@ module _ (hash : List ℕ → List ℕ) where
   abbrev pub convertIn : ℕ → List ℕ → Conversion
   convertIn place bs = convertFrom hash (length bs) place bs
 
-  pub convert-enough : (fuel place : ℕ) (bs : List ℕ) → length bs ≤ fuel → convertFrom hash fuel place bs ≡ convertIn place bs
+  convert-enough : (fuel place : ℕ) (bs : List ℕ) → length bs ≤ fuel → convertFrom hash fuel place bs ≡ convertIn place bs
   convert-enough fuel place bs h = same-conversion fuel (length bs) place bs h (omega arith)
 
   -- ---- a record at the start of what is left
@@ -156,7 +156,7 @@ module _ (hash : List ℕ → List ℕ) (long : (b : List ℕ) → length (hash 
       rw (convert-taken hash place bs d e) (anew-sized place bs d (convertIn hash (place + n) (drop n bs)) (parsed hash bs d b e) (sized w (place + n) (all-drop (λ x. ltb x 256) n bs b)))
 
   -- of what is left from a place on, and of all
-  pub converted-sizes : (place : ℕ) (bs : List ℕ) → Bytes bs → Sized bs (convertIn hash place bs)
+  converted-sizes : (place : ℕ) (bs : List ℕ) → Bytes bs → Sized bs (convertIn hash place bs)
   converted-sizes place bs b = sized (walked hash bs) place b
 
   pub convert-sizes : (bs : List ℕ) → Bytes bs → Sized bs (convert hash bs)
