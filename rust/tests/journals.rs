@@ -4,13 +4,13 @@ use std::collections::BTreeMap;
 use std::error::Error;
 
 use selvaigo::{
-    CellNursery, Counters, DamagedRecord, HashBytes, NextIdx, NodeBox, NurseryParts, Refusal, RestoreError, Room, hash, raw,
+    CellNursery, Counters, DamagedRecord, HashBytes, NextIdx, NodeBox, NurseryParts, Refusal, RestoreError, Room, raw,
     read_journal, scan_journal,
 };
 
 mod plain;
 mod worked;
-use plain::{Reading, decode, defined, number};
+use plain::{Reading, changed_under_its_hash, decode, defined};
 use worked::{tagged, three};
 
 // A record and tables of so much room, with content that is no state's.
@@ -175,15 +175,8 @@ fn every_changed_bit_under_the_right_hash() {
     let journal = three().concat();
     let mut seen = BTreeMap::new();
     for bit in 8 * 136..8 * 207 {
-        let mut changed = journal.clone();
-        changed[bit / 8] ^= 1 << (bit % 8);
-        // The second record, with the length that it states now, if that much is there.
-        let len = usize::try_from(number(&changed[136..144])).unwrap();
-        if let Some(hashed) = changed[136..].get(..len.saturating_add(8)) {
-            let hash = hash(hashed);
-            changed[104..136].copy_from_slice(&hash);
-        }
-        let number = match as_defined(&changed, 3, 9) {
+        // The second record, which starts at 104.
+        let number = match as_defined(&changed_under_its_hash(&journal, 104, bit), 3, 9) {
             Ok((_, end)) => end.refusal.map_or(0, Refusal::number),
             Err(damaged) => damaged.refusal.number(),
         };

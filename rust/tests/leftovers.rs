@@ -7,7 +7,7 @@ use selvaigo::{
 
 mod plain;
 mod worked;
-use plain::{Reading, decode, defined, number, parse};
+use plain::{Reading, changed_under_its_hash, decode, defined, parse};
 use worked::{remove, three};
 
 fn hex(bytes: &[u8]) -> String {
@@ -257,14 +257,7 @@ fn every_changed_bit_under_the_right_hash() {
     let journal = leftovers();
     let mut seen = [0; 4];
     for bit in 8 * 136..8 * 210 {
-        let mut changed = journal.clone();
-        changed[bit / 8] ^= 1 << (bit % 8);
-        let len = usize::try_from(number(&changed[136..144])).unwrap();
-        if let Some(hashed) = changed[136..].get(..len.saturating_add(8)) {
-            let hash = hash(hashed);
-            changed[104..136].copy_from_slice(&hash);
-        }
-        seen[as_defined(&changed, 3, 9).dropped.len()] += 1;
+        seen[as_defined(&changed_under_its_hash(&journal, 104, bit), 3, 9).dropped.len()] += 1;
     }
     // None is dropped where the second record is refused now, only its own where the third is.
     assert!(seen[..3].iter().all(|n| *n > 0) && seen[3] == 0, "{seen:?}");

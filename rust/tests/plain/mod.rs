@@ -3,7 +3,7 @@ use std::collections::BTreeMap;
 
 use selvaigo::{DamagedRecord, HashBytes, Idx, JournalEnd, JournalScan, NurseryDelta, NurseryEntryRecord, Refusal, hash};
 
-pub fn number(bytes: &[u8]) -> u64 {
+fn number(bytes: &[u8]) -> u64 {
     bytes.iter().rev().fold(0, |n, byte| n << 8 | u64::from(*byte))
 }
 
@@ -94,4 +94,16 @@ pub fn defined(rule: Rule, journal: &[u8], entries: usize, cell_bytes: usize) ->
         Ok(())
     });
     (scan, Ok((all.into_values().collect(), JournalEnd { applied: end.records, place: end.place, refusal: end.refusal })))
+}
+
+// A journal with a bit changed in the record at a place, and there the right hash of the length that is stated now and of so many bytes, if they are there.
+pub fn changed_under_its_hash(journal: &[u8], place: usize, bit: usize) -> Vec<u8> {
+    let mut changed = journal.to_vec();
+    changed[bit / 8] ^= 1 << (bit % 8);
+    let (head, rest) = changed[place..].split_at_mut(32);
+    let len = usize::try_from(number(&rest[..8])).unwrap();
+    if let Some(hashed) = rest.get(..len.saturating_add(8)) {
+        head.copy_from_slice(&hash(hashed));
+    }
+    changed
 }
