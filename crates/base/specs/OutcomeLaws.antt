@@ -1,17 +1,32 @@
 -- When an operation made of refusing steps ends with a refusal or a value: for any steps.
 -- Assumes nothing.
-use mathlib.Core.Path.{_≡_, refl, sym, ap}
+use mathlib.Core.Path.{_≡_, refl, sym, ap, _∙_}
 use mathlib.Core.Logic.{_↔_}
 use mathlib.Core.Bool.{Bool, true, false, _||_, false≢true, or-true}
-use mathlib.Core.List.{List, _∷_}
+use mathlib.Core.List.{List, [], _∷_, _++_}
 use Prim.Native.Nat.{ℕ}
 use native.Mathlib.Omega.{arith}
 use lib.Dec.{eqb}
 use borrow.Author.Tests.{eq-eqb}
 use Rattle.base.specs.Logic.{any, elem}
-use Rattle.base.specs.Answers.{Outcome, refused, taken, _>>_, refuseIf, numberOf, either, answerOf}
+use Rattle.base.specs.Answers.{Outcome, refused, taken, _>>=_, _>>_, refuseIf, numberOf, either, answerOf}
 use Rattle.base.specs.declared.Refusal.{Refusal}
 use Rattle.base.specs.declared.Answer.the-variants.{Refused}
+
+-- an element of two lists together
+elem-front : (n : ℕ) (ns ms : List ℕ) → elem n ns ≡ true → elem n (ns ++ ms) ≡ true
+unfolding any
+elem-front n [] ms e = absurd (false≢true e)
+elem-front n (m ∷ ns) ms e = go (eqb n m) (elem-front n ns ms) e
+  where
+    go : (b : Bool) → (elem n ns ≡ true → elem n (ns ++ ms) ≡ true) → (b || elem n ns) ≡ true → (b || elem n (ns ++ ms)) ≡ true
+    go true more f = refl
+    go false more f = more f
+
+elem-back : (n : ℕ) (ns ms : List ℕ) → elem n ms ≡ true → elem n (ns ++ ms) ≡ true
+unfolding any
+elem-back n [] ms e = e
+elem-back n (m ∷ ns) ms e = rw (elem-back n ns ms e) (or-true (eqb n m))
 
 module _ {B : Type 0} where
   -- refusals with two numbers are two, and no refusal is a value
@@ -71,6 +86,34 @@ module _ {B : Type 0} where
       go : (c : Bool) → (refuseIf c r >> o) ≡ refused q → (eqb (numberOf q) (numberOf r) || elem (numberOf q) ns) ≡ true
       go true e = rw (eq-eqb (numberOf q) (numberOf r) (sym (ap (either numberOf (λ a. 0)) e)))
       go false e = rw (rest q e) (or-true (eqb (numberOf q) (numberOf r)))
+
+-- ---- a last step that tests what came about
+module _ {A : Type 0} (test : A → Bool) (r : Refusal) where
+  abbrev last : A → Outcome A
+  last a = refuseIf (test a) r >> taken a
+
+  -- the refusals but its own are those of the steps before it
+  pub last-other : {q : Refusal} (o : Outcome A) → (numberOf r ≡ numberOf q → ⊥) → ((o >>= last) ≡ refused q) ↔ (o ≡ refused q)
+  last-other (refused p) other = (λ e. e, λ e. e)
+  last-other (taken a) other = (λ e. absurd (never-ends {P = test a ≡ true} (λ t. t, λ t. t) (other-number other) taken-refused e), λ e. absurd (taken-refused e))
+
+  -- its own comes about exactly where they give something that it is for
+  pub last-refused : (o : Outcome A) → (o ≡ refused r → ⊥) → ((o >>= last) ≡ refused r) ↔ ((a : A) × (o ≡ taken a) × (test a ≡ true))
+  last-refused (refused p) before = (λ e. absurd (before e), λ (a, e, t). absurd (refused-taken e))
+  last-refused (taken a) before =
+      ((λ e. (a, refl, ends-here {P = test a ≡ true} (λ t. t, λ t. t) taken-refused .0 e)), λ (x, e, t). rw (ap test (sym (taken-same a x .0 e)) ∙ t))
+
+  pub last-taken : (o : Outcome A) (x : A) → ((o >>= last) ≡ taken x) ↔ ((o ≡ taken x) × (test x ≡ false))
+  last-taken (refused p) x = (λ e. absurd (refused-taken e), λ e. absurd (refused-taken (e .0)))
+  last-taken (taken a) x = (to, λ (e, f). let same = taken-same a x .0 e in rw (← same, f))
+    where
+      to : last a ≡ taken x → (taken a ≡ taken x) × (test x ≡ false)
+      to e = let (f, same) = passed (test a) r (taken a) x e in (same, rw (taken-same a x .0 same) f)
+
+  -- the numbers: theirs, and then its own
+  pub last-numbers : (ns : List ℕ) (o : Outcome A) → Refuses ns o → Refuses (ns ++ (numberOf r ∷ [])) (o >>= last)
+  last-numbers ns (refused p) before q e = elem-front (numberOf q) ns (numberOf r ∷ []) (before q e)
+  last-numbers ns (taken a) before q e = elem-back (numberOf q) ns (numberOf r ∷ []) (refuses-step {P = test a ≡ true} r [] (λ t. t, λ t. t) (refuses-none [] a) q e)
 
 -- ---- conditions side by side
 module _ {X A B C : Type 0} where

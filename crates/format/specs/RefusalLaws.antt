@@ -2,7 +2,7 @@
 -- Assumes nothing.
 use mathlib.Core.Path.{_≡_, refl, sym, ap, _∙_}
 use mathlib.Core.Logic.{_↔_, _⊎_, inl, inr}
-use mathlib.Core.Bool.{Bool, true, false, not, _||_, false≢true, or-true}
+use mathlib.Core.Bool.{Bool, true, false, not, _||_, false≢true}
 use mathlib.Core.Option.{Option, none, some}
 use mathlib.Core.List.{List, [], _∷_}
 use Prim.Native.Nat.{ℕ, _+_, _-_, _^_, _≤_, _<_}
@@ -10,12 +10,12 @@ use native.Mathlib.Omega.{arith}
 use native.Mathlib.Decide.{decLt}
 use lib.ListN.{length, take, drop}
 use lib.Dec.{leb, ltb, eqb}
-use borrow.Author.Tests.{lt-ltb, ltb-false}
+use borrow.Author.Tests.{lt-ltb, ltb-true, ltb-false}
 use Rattle.base.specs.Logic.{eqbList, any, elem}
 use Rattle.base.specs.Bytes.{unle}
 use Rattle.base.specs.Answers.{Outcome, refused, taken, _>>=_, _>>_, refuseIf, orRefuse, answerOf, numberOf}
 use Rattle.base.specs.ListLaws.{leb-le, ltb-lt}
-use Rattle.base.specs.OutcomeLaws.{other-number, refused-taken, taken-refused, taken-same, passed, ends-here, ends-later, never-ends, Refuses, refuses-none, refuses-step}
+use Rattle.base.specs.OutcomeLaws.{other-number, refused-taken, taken-refused, taken-same, ends-here, ends-later, never-ends, Refuses, refuses-none, refuses-step, last-other, last-refused, last-taken, last-numbers}
 use Rattle.base.specs.declared.Answer.the-variants.{Refused}
 use Rattle.base.specs.declared.Refusal.{Refusal}
 use Rattle.base.specs.declared.Refusal.the-variants.{TooLong, OutputFull, ShortRecord, FarLength, Mismatch, Misfit, Broken, Leftover}
@@ -130,8 +130,8 @@ module _ (hash : List ℕ → List ℕ) (bs : List ℕ) where
       go true e = (λ f. absurd (false≢true f), λ n. absurd (n (eqbList-true (hash (take (8 + stated bs) (drop 32 bs))) (take 32 bs) e)))
       go false e = (λ f. eqbList-false (hash (take (8 + stated bs) (drop 32 bs))) (take 32 bs) e, λ n. refl)
 
-  last-numbers : Refuses (19 ∷ []) last
-  last-numbers = missing-numbers Misfit (payloadOf (payload bs)) (λ p. taken (decoding p)) [] (λ p. refuses-none [] (decoding p))
+  misfit-numbers : Refuses (19 ∷ []) last
+  misfit-numbers = missing-numbers Misfit (payloadOf (payload bs)) (λ p. taken (decoding p)) [] (λ p. refuses-none [] (decoding p))
 
   -- 16, short record: under 40 bytes, or fewer than 40 + stated length
   pub parse-short : (parse hash bs ≡ refused ShortRecord) ↔ ((length bs < 40) ⊎ ((stated bs < 2 ^ 64 - 8) × (length bs < 40 + stated bs)))
@@ -140,7 +140,7 @@ module _ (hash : List ℕ → List ℕ) (bs : List ℕ) where
       exactly
       (ends-twice head-test
       (ends-later far-test (other-number (omega arith))
-      (ends-here cut-test (never-ends hash-test (other-number (omega arith)) (λ e. false≢true (last-numbers ShortRecord e))))))
+      (ends-here cut-test (never-ends hash-test (other-number (omega arith)) (λ e. false≢true (misfit-numbers ShortRecord e))))))
       (to, from)
     where
       to : (length bs < 40) ⊎ ((¬ (length bs < 40)) × ((¬ (2 ^ 64 - 8 ≤ stated bs)) × (length bs < 40 + stated bs))) → (length bs < 40) ⊎ ((stated bs < 2 ^ 64 - 8) × (length bs < 40 + stated bs))
@@ -157,7 +157,7 @@ module _ (hash : List ℕ → List ℕ) (bs : List ℕ) where
   parse-far =
       exactly
       (ends-later head-test (other-number (omega arith))
-      (ends-here far-test (never-ends cut-test (other-number (omega arith)) (never-ends hash-test (other-number (omega arith)) (λ e. false≢true (last-numbers FarLength e))))))
+      (ends-here far-test (never-ends cut-test (other-number (omega arith)) (never-ends hash-test (other-number (omega arith)) (λ e. false≢true (misfit-numbers FarLength e))))))
       ((λ p. (omega (arith, p .0), p .1)), λ p. ((λ h. omega (arith, p .0)), p .1))
 
   -- what comes behind these tests comes where the record is whole
@@ -170,7 +170,7 @@ module _ (hash : List ℕ → List ℕ) (bs : List ℕ) where
   -- 18, mismatch: the record hash is wrong
   pub parse-mismatch : (parse hash bs ≡ refused Mismatch) ↔ (Whole bs × (¬ Matches hash bs))
   unfolding parse any
-  parse-mismatch = whole-then (other-number (omega arith)) (other-number (omega arith)) (ends-here hash-test (λ e. false≢true (last-numbers Mismatch e)))
+  parse-mismatch = whole-then (other-number (omega arith)) (other-number (omega arith)) (ends-here hash-test (λ e. false≢true (misfit-numbers Mismatch e)))
 
   -- what comes behind this one comes where the hash is right
   matches : ¬ (¬ Matches hash bs) → Matches hash bs
@@ -213,7 +213,7 @@ module _ (hash : List ℕ → List ℕ) (bs : List ℕ) where
       once (eqb (numberOf q) 16) (eqb (numberOf q) 17) (elem (numberOf q) (18 ∷ 19 ∷ []))
       (refuses-step ShortRecord (17 ∷ 16 ∷ 18 ∷ 19 ∷ []) head-test
       (refuses-step FarLength (16 ∷ 18 ∷ 19 ∷ []) far-test
-      (refuses-step ShortRecord (18 ∷ 19 ∷ []) cut-test (refuses-step Mismatch (19 ∷ []) hash-test last-numbers))) q e)
+      (refuses-step ShortRecord (18 ∷ 19 ∷ []) cut-test (refuses-step Mismatch (19 ∷ []) hash-test misfit-numbers))) q e)
     where
       once : (a b c : Bool) → (a || (b || (a || c))) ≡ true → (a || (b || c)) ≡ true
       once true b c f = refl
@@ -236,11 +236,7 @@ module _ (hash : List ℕ → List ℕ) (bs : List ℕ) where
   -- a refusal with another number than 22 is parsing's
   refused-before : {q : Refusal} → (numberOf Leftover ≡ numberOf q → ⊥) → (decode hash bs ≡ refused q) ↔ (parse hash bs ≡ refused q)
   unfolding decode
-  refused-before {q} other = (to (parse hash bs) refl, still-refused q)
-    where
-      to : (o : Outcome Decoding) → parse hash bs ≡ o → (o >>= (λ d. refuseIf (ltb 0 (leftover (d .stats))) Leftover >> taken d)) ≡ refused q → parse hash bs ≡ refused q
-      to (refused r) i e = i ∙ e
-      to (taken d) i e = absurd (never-ends (ltb-lt 0 (leftover (d .stats))) (other-number other) taken-refused e)
+  refused-before other = last-other (λ (d : Decoding). ltb 0 (leftover (d .stats))) Leftover (parse hash bs) other
 
   -- 16, short record
   pub decode-short : (decode hash bs ≡ refused ShortRecord) ↔ ((length bs < 40) ⊎ ((stated bs < 2 ^ 64 - 8) × (length bs < 40 + stated bs)))
@@ -267,51 +263,26 @@ module _ (hash : List ℕ → List ℕ) (bs : List ℕ) where
   pub decode-leftover : (decode hash bs ≡ refused Leftover)
       ↔ (Whole bs × Matches hash bs × ((p : Payload) × (payloadOf (payload bs) ≡ some p) × (length (payloadBytes (p .id) (p .delta)) < stated bs)))
   unfolding decode any
-  decode-leftover = (to (parse hash bs) refl, λ (w, m, (p, i, h)). left-over (decoding p) (parse-taken (decoding p) .1 (w, m, (p, i, refl))) (over p .1 h))
-    where
-      Over : Type 0
-      Over = Whole bs × Matches hash bs × ((p : Payload) × (payloadOf (payload bs) ≡ some p) × (length (payloadBytes (p .id) (p .delta)) < stated bs))
-
-      to : (o : Outcome Decoding) → parse hash bs ≡ o → (o >>= (λ d. refuseIf (ltb 0 (leftover (d .stats))) Leftover >> taken d)) ≡ refused Leftover → Over
-      to (refused r) i e = absurd (false≢true (parse-numbers Leftover (i ∙ e)))
-      to (taken d) i e =
-          let h = ends-here {P = 0 < leftover (d .stats)} (ltb-lt 0 (leftover (d .stats))) taken-refused .0 e in
-          let (w, m, (p, j, same)) = parse-taken d .0 i in
-          (w, m, (p, j, over p .0 (rw same at h)))
+  decode-leftover =
+      exactly (last-refused (λ (d : Decoding). ltb 0 (leftover (d .stats))) Leftover (parse hash bs) (λ e. false≢true (parse-numbers Leftover e))) (
+        (λ (d, i, h).
+            let (w, m, (p, j, same)) = parse-taken d .0 i in
+            let k = ltb-true 0 (leftover (d .stats)) h in
+            (w, m, (p, j, over p .0 (rw same at k)))),
+        λ (w, m, (p, j, h)). (decoding p, parse-taken (decoding p) .1 (w, m, (p, j, refl)), lt-ltb 0 (leftover (decoding p .stats)) (over p .1 h)),
+      )
 
   -- taken: none of the five
   pub decode-taken : (x : Decoding) → (decode hash bs ≡ taken x) ↔ ((parse hash bs ≡ taken x) × (leftover (x .stats) ≡ 0))
   unfolding decode
-  decode-taken x = (to (parse hash bs) refl, λ (e, z). still-taken x e z)
-    where
-      to : (o : Outcome Decoding) → parse hash bs ≡ o → (o >>= (λ d. refuseIf (ltb 0 (leftover (d .stats))) Leftover >> taken d)) ≡ taken x → (parse hash bs ≡ taken x) × (leftover (x .stats) ≡ 0)
-      to (refused r) i e = absurd (refused-taken e)
-      to (taken d) i e =
-          let (z, same) = passed (ltb 0 (leftover (d .stats))) Leftover (taken d) x e in
-          let k : leftover (d .stats) ≡ 0 = omega (arith, ltb-false 0 (leftover (d .stats)) z) in
-          (i ∙ same, rw (taken-same d x .0 same) k)
+  decode-taken x =
+      exactly (last-taken (λ (d : Decoding). ltb 0 (leftover (d .stats))) Leftover (parse hash bs) x)
+      ((λ (i, f). (i, omega (arith, ltb-false 0 (leftover (x .stats)) f))), λ (i, z). (i, rw z))
 
   -- 16 to 19 and 22, and no other
   pub decode-numbers : Refuses (16 ∷ 17 ∷ 18 ∷ 19 ∷ 22 ∷ []) (decode hash bs)
-  unfolding decode any
-  decode-numbers q = go (parse hash bs) refl
-    where
-      more : (a b c d e : Bool) → (a || (b || (c || (d || false)))) ≡ true → (a || (b || (c || (d || (e || false))))) ≡ true
-      more true b c d e f = refl
-      more false true c d e f = refl
-      more false false true d e f = refl
-      more false false false true e f = refl
-      more false false false false e f = absurd (false≢true f)
-
-      go : (o : Outcome Decoding) → parse hash bs ≡ o → (o >>= (λ d. refuseIf (ltb 0 (leftover (d .stats))) Leftover >> taken d)) ≡ refused q → elem (numberOf q) (16 ∷ 17 ∷ 18 ∷ 19 ∷ 22 ∷ []) ≡ true
-      go (refused r) i e = more (eqb (numberOf q) 16) (eqb (numberOf q) 17) (eqb (numberOf q) 18) (eqb (numberOf q) 19) (eqb (numberOf q) 22) (parse-numbers q (i ∙ e))
-      go (taken d) i e =
-          let z = refuses-step Leftover [] (ltb-lt 0 (leftover (d .stats))) (refuses-none [] d) q e in
-          last (eqb (numberOf q) 16) (eqb (numberOf q) 17) (eqb (numberOf q) 18) (eqb (numberOf q) 19) (eqb (numberOf q) 22) z
-        where
-          last : (a b c d e : Bool) → (e || false) ≡ true → (a || (b || (c || (d || (e || false))))) ≡ true
-          last a b c d true f = rw (or-true d, or-true c, or-true b, or-true a)
-          last a b c d false f = absurd (false≢true f)
+  unfolding decode
+  decode-numbers = last-numbers (λ (d : Decoding). ltb 0 (leftover (d .stats))) Leftover (16 ∷ 17 ∷ 18 ∷ 19 ∷ []) (parse hash bs) parse-numbers
 
   -- the call's answer
   decode-answered : decodeCall hash bs .answer ≡ answerOf (decode hash bs)
