@@ -49,8 +49,8 @@ fn taken(c: Counters, t: &mut [u64], b: &[u64]) -> Applied
     }
 }
 
-// A whole batch that names allocated indices, each once, on a table that holds a state: 5, 4, 6, each over the whole batch, before the first
-// write.
+// A whole batch that names allocated indices, each once, on a table that holds a state: 5, 4, 6, 25, each over the whole batch, before the
+// first write.
 fn apply_once(c: Counters, t: &mut [u64], b: &[u64]) -> Applied
     requires { ⌜ (layout.holds c (now t) ≡ true) × (length (now b) % 3 ≡ 0) × (any (unallocated (c .«next_idx» .0)) (kept (transitions (now b))) ≡ false) × (repeated (named (kept (transitions (now b)))) ≡ false) ⌝ }
     ensures { λ r. ⌜ effect r (now (t .exit)) ≡ batchCall c (now (t .entry)) (now (b .entry)) ⌝ }
@@ -59,25 +59,23 @@ fn apply_once(c: Counters, t: &mut [u64], b: &[u64]) -> Applied
     if counter_checks::any_false_old(t, n, b) {
         return refused(c, Refusal::FalseOld);
     }
-    if counter_checks::off_total(
-        c.live_cells,
-        counter_steps::tally(b, Kind::Birth),
-        counter_steps::tally(b, Kind::Death),
-    ) {
+    let births = counter_steps::tally(b, Kind::Birth);
+    let deaths = counter_steps::tally(b, Kind::Death);
+    if counter_checks::off_total(c.live_cells, births, deaths) {
         return refused(c, Refusal::OffTotal);
     }
-    if exceeds(
-        t,
-        n,
-        counter_steps::tally(b, Kind::Rise),
-        counter_steps::tally(b, Kind::Fall),
-    ) {
+    let rises = counter_steps::tally(b, Kind::Rise);
+    let falls = counter_steps::tally(b, Kind::Fall);
+    if exceeds(t, n, rises, falls) {
         return refused(c, Refusal::TableFull);
+    }
+    if counter_checks::few_cells(c.live_cells, births, deaths, n, rises, falls) {
+        return refused(c, Refusal::FewCells);
     }
     taken(c, t, b)
 }
 
-// A batch on a table that holds a state: 20 for ragged words, then 2, 3, 5, 4, 6, each over the whole batch, before the first write. The
+// A batch on a table that holds a state: 20 for ragged words, then 2, 3, 5, 4, 6, 25, each over the whole batch, before the first write. The
 // words behind the rows may serve 3 to sort in, and are 0 again.
 pub fn apply_batch_held(c: Counters, t: &mut [u64], b: &[u64]) -> Applied
     requires { ⌜ layout.holds c (now t) ≡ true ⌝ }

@@ -1,7 +1,7 @@
 // The tests of a batch, each over the whole batch: lent words, three a transition (index, old, new).
 ghost use mathlib.Core.Path.{_≡_};
 ghost use mathlib.Core.Bool.{_&&_, _||_};
-ghost use Prim.Native.Nat.{_+_, _/_, _≤_, _<_};
+ghost use Prim.Native.Nat.{_+_, _-_, _/_, _^_, _≤_, _<_};
 ghost use lib.Dec.{ltb};
 ghost use lib.ListN.{length, drop};
 ghost use Rattle.base.specs.Logic.{any, elem, repeated, max64};
@@ -92,4 +92,17 @@ pub fn off_total(live: u64, births: u64, deaths: u64) -> bool
         return true;
     }
     live + births < deaths
+}
+
+// 25: n rows, with those that come and without those that go, are more than the cells that births and deaths leave.
+pub fn few_cells(live: u64, births: u64, deaths: u64, n: usize, rises: u64, falls: u64) -> bool
+    requires { ⌜ (live + births < 2 ^ 64) × (deaths ≤ live + births) × (n + rises < 2 ^ 64) ⌝ }
+    ensures { λ r. ⌜ r ≡ ltb (live + births - deaths) (n + rises - falls) ⌝ }
+{
+    let cells = live + births - deaths;
+    let rows = (n as u64) + rises;
+    if rows <= cells {
+        return false;
+    }
+    falls < rows - cells
 }

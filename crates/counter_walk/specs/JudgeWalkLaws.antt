@@ -4,7 +4,7 @@ use mathlib.Core.Path.{_≡_, refl, sym, ap, _∙_}
 use mathlib.Core.Bool.{Bool, true, false, _||_}
 use mathlib.Core.List.{List, []}
 use native.Mathlib.Nat.{zero-add}
-use Prim.Native.Nat.{ℕ, _+_, _*_, _/_, _≤_, _<_}
+use Prim.Native.Nat.{ℕ, _+_, _-_, _*_, _/_, _≤_, _<_}
 use native.Mathlib.Omega.{arith}
 use native.Mathlib.Decide.{decLt}
 use borrow.Author.Tests.{le-ltb, lt-ltb, eqb-true, eqb-false}
@@ -12,7 +12,7 @@ use lib.Dec.{ltb, eqb}
 use lib.ListN.{length, drop-of-length-le}
 use Rattle.base.specs.Logic.{pick, any, keep, repeated, max64}
 use Rattle.base.specs.declared.Refusal.{Refusal}
-use Rattle.base.specs.declared.Refusal.the-variants.{Unallocated, Repeated, FalseOld, OffTotal, TableFull}
+use Rattle.base.specs.declared.Refusal.the-variants.{Unallocated, Repeated, FalseOld, OffTotal, TableFull, FewCells}
 use Rattle.base.specs.declared.Answer.the-variants.{Taken, Refused}
 use Rattle.counters.specs.declared.Counters.{Counters}
 use Rattle.counters.specs.declared.CounterTransition.{CounterTransition}
@@ -25,7 +25,7 @@ use Rattle.counters.specs.Calls.{effect, batchCall}
 use Rattle.counters.specs.Steps.{transitions}
 use Rattle.counter_steps.specs.Steps.{passOf}
 use Rattle.counters.specs.JudgeLaws as judge
-use Rattle.counters.specs.JudgeLaws.{judge-unallocated, judge-repeated, judge-false-old, judge-off-total, rows-after, judge-full, judge-taken, total-of}
+use Rattle.counters.specs.JudgeLaws.{judge-unallocated, judge-repeated, judge-false-old, judge-off-total, rows-after, judge-full, few-test, judge-few, judge-taken, total-of}
 use Rattle.counters.specs.RowLaws.{in-order}
 use Rattle.counter_walk.specs.declared.Phase.{Phase}
 use Rattle.counter_walk.specs.declared.Phase.the-variants.{Free, End}
@@ -122,6 +122,12 @@ module _ (c : Counters) (t₀ : List ℕ) (bs : List CounterTransition) where
     same-batch : kept (transitions ws) ≡ kept bs
     same-batch = ap kept (words-transitions bs)
 
+    births-all : s .sums .births ≡ length (keep birth (kept (transitions ws)))
+    births-all = rw same-batch births-are
+
+    deaths-all : s .sums .deaths ≡ length (keep death (kept (transitions ws)))
+    deaths-all = rw same-batch deaths-are
+
     rises-all : s .sums .rises ≡ length (keep rises (kept (transitions ws)))
     rises-all = rw same-batch rises-are
 
@@ -173,8 +179,14 @@ module _ (c : Counters) (t₀ : List ℕ) (bs : List CounterTransition) where
     abbrev full : Bool
     full = ltb (room + s .sums .falls) (s .counters .stored + s .sums .rises)
 
+    abbrev few : Bool
+    few = ltb (s .counters .«live_cells» + s .sums .births - s .sums .deaths) (s .counters .stored + s .sums .rises - s .sums .falls)
+
+    abbrev from-25 : Walk
+    from-25 = pick few (ended s FewCells) (accepted s)
+
     abbrev from-6 : Walk
-    from-6 = pick full (ended s TableFull) (accepted s)
+    from-6 = pick full (ended s TableFull) from-25
 
     abbrev from-4 : Walk
     from-4 = pick total (ended s OffTotal) from-6
@@ -195,17 +207,26 @@ module _ (c : Counters) (t₀ : List ℕ) (bs : List CounterTransition) where
           rw (u .same, e) (same-room room (length (countsAfter (kept (transitions ws)) es)) (s .sums .falls))
 
       module _ (e₄ : offTotal (c .«live_cells») (kept (transitions ws)) ≡ false) where
-        lands-6 : (b : Bool) → full ≡ b → Lands c t₀ bs k (pick b (ended s TableFull) (accepted s)) t₀
-        lands-6 true e = refuses TableFull (judge-full c t₀ ws (u .holding) (words-whole bs) e₂ e₃ e₅ e₄ (sym full-is ∙ e))
-        lands-6 false e =
+        few-is : few ≡ ltb (c .«live_cells» + births (kept (transitions ws)) - deaths (kept (transitions ws))) (length (countsAfter (kept (transitions ws)) es))
+        few-is =
+            rw (u .same)
+            (few-test c t₀ ws (u .holding) (words-whole bs) e₂ e₃ e₅ e₄ (s .sums .births) (s .sums .deaths) (s .sums .rises) (s .sums .falls) births-all deaths-all rises-all falls-all)
+
+        lands-25 : full ≡ false → (b : Bool) → few ≡ b → Lands c t₀ bs k (pick b (ended s FewCells) (accepted s)) t₀
+        lands-25 e₆ true e = refuses FewCells (judge-few c t₀ ws (u .holding) (words-whole bs) e₂ e₃ e₅ e₄ (sym full-is ∙ e₆) (sym few-is ∙ e))
+        lands-25 e₆ false e =
             takes
             (record {
-              judged = judge.judged c t₀ ws (u .holding) (words-whole bs) e₂ e₃ e₅ e₄ (sym full-is ∙ e);
-              gives = rw same-batch at (judge-taken c t₀ ws (u .holding) (words-whole bs) e₂ e₃ e₅ e₄ (sym full-is ∙ e));
+              judged = judge.judged c t₀ ws (u .holding) (words-whole bs) e₂ e₃ e₅ e₄ (sym full-is ∙ e₆);
+              gives = rw same-batch at (judge-taken c t₀ ws (u .holding) (words-whole bs) e₂ e₃ e₅ e₄ (sym full-is ∙ e₆) (sym few-is ∙ e));
             })
 
+        lands-6 : (b : Bool) → full ≡ b → Lands c t₀ bs k (pick b (ended s TableFull) from-25) t₀
+        lands-6 true e = refuses TableFull (judge-full c t₀ ws (u .holding) (words-whole bs) e₂ e₃ e₅ e₄ (sym full-is ∙ e))
+        lands-6 false e = lands-25 e few refl
+
       total-is : total ≡ offTotal (c .«live_cells») (kept (transitions ws))
-      total-is = rw (u .same) (total-of (c .«live_cells») (kept (transitions ws)) (s .sums .births) (s .sums .deaths) (rw same-batch births-are) (rw same-batch deaths-are))
+      total-is = rw (u .same) (total-of (c .«live_cells») (kept (transitions ws)) (s .sums .births) (s .sums .deaths) births-all deaths-all)
 
       lands-4 : (b : Bool) → total ≡ b → Lands c t₀ bs k (pick b (ended s OffTotal) from-6) t₀
       lands-4 true e = refuses OffTotal (judge-off-total c t₀ ws (u .holding) (words-whole bs) e₂ e₃ e₅ (sym total-is ∙ e))

@@ -4,14 +4,13 @@ use mathlib.Core.Path.{_≡_, refl, sym, subst}
 use mathlib.Core.Bool.{Bool, true, false, _&&_, _||_}
 use mathlib.Core.Logic.{_⊎_, inl, inr}
 use mathlib.Core.List.{List, [], _∷_}
-use Prim.Native.Nat.{ℕ, _+_, _/_, _^_, _≤_, _<_}
+use Prim.Native.Nat.{ℕ, _+_, _-_, _/_, _^_, _≤_, _<_}
 use native.Mathlib.Omega.{arith}
-use borrow.Author.Tests.{lt-ltb, le-ltb, eq-eqb, ne-eqb, ltb-false}
+use borrow.Author.Tests.{lt-ltb, le-ltb, eq-eqb, ne-eqb}
 use lib.Dec.{ltb, eqb}
 use lib.ListN.{length}
 use Rattle.base.specs.Logic.{pick, max64}
-use Rattle.base.specs.ListLaws.{or-false}
-use Rattle.base.specs.declared.Refusal.the-variants.{Unallocated, Repeated, FalseOld, OffTotal, TableFull, Broken}
+use Rattle.base.specs.declared.Refusal.the-variants.{Unallocated, Repeated, FalseOld, OffTotal, TableFull, Broken, FewCells}
 use Rattle.rows.specs.Table as rows
 use Rattle.rows.specs.Table.{rowsOf}
 use Rattle.counters.specs.declared.Counters.{Counters}
@@ -97,17 +96,20 @@ module _ (room : ℕ) (s : Walk) where
           unfolding judged
           full-ends h = rw (allocated, once, true-old, on-total, lt-ltb (room + s .sums .falls) (s .counters .stored + s .sums .rises) h)
 
-          pub passes : s .counters .stored + s .sums .rises ≤ room + s .sums .falls → accepted s ≡ judged room s
-          unfolding judged
-          passes h = rw (allocated, once, true-old, on-total, le-ltb (room + s .sums .falls) (s .counters .stored + s .sums .rises) h)
+          module _ (room-left : s .counters .stored + s .sums .rises ≤ room + s .sums .falls) where
+            abbrev few : Bool
+            few = ltb (s .counters .«live_cells» + s .sums .births - s .sums .deaths) (s .counters .stored + s .sums .rises - s .sums .falls)
 
-  -- the total after the batch is a number of 64 bits
-  pub total-fits : (ltb max64 (s .counters .«live_cells» + s .sums .births) || ltb (s .counters .«live_cells» + s .sums .births) (s .sums .deaths)) ≡ false
-      → (s .counters .«live_cells» + s .sums .births < 2 ^ 64) × (s .sums .deaths ≤ s .counters .«live_cells» + s .sums .births)
-  total-fits e =
-      let x : ℕ = s .counters .«live_cells» + s .sums .births in
-      let both = or-false (ltb max64 x) (ltb x (s .sums .deaths)) e in
-      (omega (arith, ltb-false max64 x (both .0)), ltb-false x (s .sums .deaths) (both .1))
+            not-full : ltb (room + s .sums .falls) (s .counters .stored + s .sums .rises) ≡ false
+            not-full = le-ltb (room + s .sums .falls) (s .counters .stored + s .sums .rises) room-left
+
+            pub few-ends : few ≡ true → ended s FewCells ≡ judged room s
+            unfolding judged
+            few-ends e = rw (allocated, once, true-old, on-total, not-full, e)
+
+            pub passes : few ≡ false → accepted s ≡ judged room s
+            unfolding judged
+            passes e = rw (allocated, once, true-old, on-total, not-full, e)
 
   -- ---- on to a record, or to the tests
   module _ (i : ℕ) where

@@ -7,7 +7,7 @@ use lib.ListN.{length}
 use lib.Dec.{ltb, eqb}
 use Rattle.base.specs.Logic.{pick, max64}
 use Rattle.base.specs.declared.Refusal.{Refusal}
-use Rattle.base.specs.declared.Refusal.the-variants.{Unallocated, Repeated, FalseOld, OffTotal, TableFull, Broken}
+use Rattle.base.specs.declared.Refusal.the-variants.{Unallocated, Repeated, FalseOld, OffTotal, TableFull, Broken, FewCells}
 use Rattle.base.specs.declared.Answer.the-variants.{Taken, Refused}
 use Rattle.rows.specs.Table as rows
 use Rattle.rows.specs.Table.{rowsOf}
@@ -21,7 +21,6 @@ use Rattle.counters.specs.Layout.{countRow}
 use Rattle.counters.specs.Batch.{changes, kept, unallocated, falseOld}
 use Rattle.counters.specs.Maintenance.{maintained}
 use Rattle.counters.specs.Held.{InOrder}
-use Rattle.counters.specs.Steps.{transition}
 use Rattle.counter_steps.specs.Steps.{ofKind, applyOne}
 use Rattle.counter_walk.specs.declared.Phase.{Phase}
 use Rattle.counter_walk.specs.declared.Phase.the-variants.{Look, Again, Free, Store, End}
@@ -123,7 +122,8 @@ judged room s =
     (pick (s .sums .«false_old») (ended s FalseOld)
     (pick (ltb max64 (s .counters .«live_cells» + s .sums .births) || ltb (s .counters .«live_cells» + s .sums .births) (s .sums .deaths)) (ended s OffTotal)
     (pick (ltb (room + s .sums .falls) (s .counters .stored + s .sums .rises)) (ended s TableFull)
-    (accepted s)))))
+    (pick (ltb (s .counters .«live_cells» + s .sums .births - s .sums .deaths) (s .counters .stored + s .sums .rises - s .sums .falls)) (ended s FewCells)
+    (accepted s))))))
 
 -- on to record i, or to the tests where there is none
 unfoldable pub onTo : ℕ → Walk → ℕ → Walk

@@ -213,6 +213,16 @@ fn judged(t: &[u64], s: Walk) -> Walk
     if (t.len() / 2) as u64 + sums.falls < c.stored as u64 + sums.rises {
         return ended(s, Refusal::TableFull);
     }
+    if counter_checks::few_cells(
+        c.live_cells,
+        sums.births,
+        sums.deaths,
+        c.stored,
+        sums.rises,
+        sums.falls,
+    ) {
+        return ended(s, Refusal::FewCells);
+    }
     accepted(s)
 }
 

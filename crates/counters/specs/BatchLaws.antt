@@ -13,11 +13,12 @@ use lib.Dec.{leb, ltb, eqb}
 use borrow.Author.Tests.{le-leb, lt-leb, leb-false, le-ltb, ltb-false, eqb-true, eqb-false, eq-eqb, not-false}
 use Rattle.base.specs.Logic.{pick, any, keep, fold, elem, repeated}
 use Rattle.base.specs.ListLaws.{or-false, Some, some-weaker, fold-reads, fold-unset, fold-set, length-keep, any-order, keep-order, count-order, repeated-order, fold-order}
+use Rattle.base.specs.Answers.{Outcome, _>>=_}
 use Rattle.counters.specs.declared.CounterTransition.{CounterTransition}
 use Rattle.counters.specs.declared.CounterMaintenance.{CounterMaintenance}
 use Rattle.counters.specs.Counts.{Entry, State, storedAt, countAt, setCount}
 use Rattle.counters.specs.Maintenance.{falls, rises, clears, grown, grownSets, maintained}
-use Rattle.counters.specs.Batch.{kept, named, unallocated, births, deaths, falseOld, offTotal, countsAfter, stateAfter, applyKept, applyBatch}
+use Rattle.counters.specs.Batch.{kept, named, unallocated, births, deaths, falseOld, offTotal, countsAfter, stateAfter, applyKept, bound, applyBatch}
 use Rattle.counters.specs.Layout.{ordered}
 use Rattle.counters.specs.CountLaws.{storedOf, stored-two, stored-other, storedAt-setCount, countAt-setCount, setCount-swap, ordered-setCount, length-rowOf, length-setCount}
 use Rattle.counters.specs.EachLaws.{each-same}
@@ -149,7 +150,7 @@ module _ {ts us : List CounterTransition} (r : Reordered ts us) where
 -- for any reordering of a batch the outcome is the same, number and state
 pub batch-order : {ts us : List CounterTransition} → Reordered ts us → (room : ℕ) (s : State) → applyBatch room s ts ≡ applyBatch room s us
 unfolding applyBatch
-batch-order r room s = applyKept-order (kept-order r) room s
+batch-order r room s = ap (λ (o : Outcome State). o >>= bound) (applyKept-order (kept-order r) room s)
 
 -- ---- how many counts are stored after a batch
 -- the old count of a transition that isn't refused is stored exactly where a count is

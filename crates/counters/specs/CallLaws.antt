@@ -9,15 +9,15 @@ use Prim.Native.Nat.{ℕ, _+_, _/_, _%_, _≤_}
 use native.Mathlib.Omega.{arith}
 use lib.ListN.{length}
 use lib.Dec.{eqb}
-use borrow.Author.Tests.{eqb-true, eqb-false}
+use borrow.Author.Tests.{le-leb, eqb-true, eqb-false}
 use Rattle.base.specs.Logic.{all, any, elem, ascendingFrom}
-use Rattle.base.specs.Laws.{and-left, and-both}
 use Rattle.base.specs.Answers.{Outcome, refused, taken, _>>=_, orRefuse, answerOf, valueOr, numberOf}
 use Rattle.base.specs.AnswerLaws.{not-refused}
 use Rattle.base.specs.declared.Refusal.{Refusal}
 use Rattle.base.specs.declared.Refusal.the-variants.{Broken}
 use Rattle.base.specs.declared.Answer.the-variants.{Taken, Refused}
-use Rattle.rows.specs.Table.{rowsOf, holdsRows}
+use Rattle.rows.specs.Table.{rowsOf}
+use Rattle.rows.specs.TableLaws.{laid-holds}
 use Rattle.counters.specs.declared.Counters.{Counters}
 use Rattle.counters.specs.declared.CounterTransition.{CounterTransition}
 use Rattle.counters.specs.declared.Shrunk.{Shrunk}
@@ -31,7 +31,7 @@ use Rattle.counters.specs.LayoutLaws.{held, length-tableOf, stateOf-laid
 use Rattle.counters.specs.Calls.{onState, laid, laidOut, newCall, allocated, allocCall, getCall, batchCall, decided, shrinkCall}
 use Rattle.counters.specs.CountLaws.{ordered-more}
 use Rattle.base.specs.OutcomeLaws.{refused-taken, taken-refused, answer-refused, Refuses, refuses-none, refuses-step}
-use Rattle.counters.specs.RefusalLaws.{allocate-taken, get-numbers, batch-numbers, taken-ordered, taken-fits}
+use Rattle.counters.specs.RefusalLaws.{allocate-taken, get-numbers, batch-numbers, taken-ordered, bounded-after, taken-fits}
 
 -- ---- an operation on the state that a record and a table hold
 module _ {A : Type 0} (c : Counters) (t : List ℕ) (f : State → Outcome A) where
@@ -61,7 +61,7 @@ module _ {A : Type 0} (c : Counters) (t : List ℕ) (f : State → Outcome A) wh
 module _ (base : ℕ) (next : NextIdx) (t : List ℕ) where
   pub new-holds : holds (newCall base next t .result .counters) (newCall base next t .table) ≡ true
   unfolding newCall laid fresh ordered ascendingFrom all
-  new-holds = holds-laid (fresh base (next .0)) (length t) (omega arith) refl
+  new-holds = holds-laid (fresh base (next .0)) (length t) (omega arith) refl (omega arith)
 
   pub new-length : length (newCall base next t .table) ≡ length t
   unfolding newCall laid fresh
@@ -105,9 +105,12 @@ module _ (c : Counters) where
     withNext-holds : (n : ℕ) → c .«next_idx» .0 ≤ n → holds c t ≡ true → holds (withNext c n) t ≡ true
     unfolding holds withNext
     withNext-holds n l h =
-        and-both (holdsRows 2 (c .stored) t) (ordered n (rowsOf countRow (c .stored) t))
-        (and-left (holdsRows 2 (c .stored) t) (ordered (c .«next_idx» .0) (rowsOf countRow (c .stored) t)) h)
-        (ordered-more (c .«next_idx» .0) (rowsOf countRow (c .stored) t) (held c t h .sorted) n l)
+        let s = held c t h in
+        rw (
+          laid-holds 2 (c .stored) t (s .laid),
+          ordered-more (c .«next_idx» .0) (rowsOf countRow (c .stored) t) (s .sorted) n l,
+          le-leb (c .stored) (c .«live_cells») (s .bounded),
+        )
 
     pub alloc-holds : holds c t ≡ true → holds (allocCall c .counters) t ≡ true
     unfolding allocCall allocated
@@ -165,15 +168,16 @@ module _ (c : Counters) (t : List ℕ) (o : Outcome State) where
         go (refused r) f = refl
         go (taken s) f = length-tableOf s (length t) (omega (arith, f s refl))
 
-    laidOut-holds : holds c t ≡ true → ((s : State) → o ≡ taken s → ordered (s .next) (s .counts) ≡ true)
+    laidOut-holds : holds c t ≡ true → ((s : State) → o ≡ taken s → (ordered (s .next) (s .counts) ≡ true) × (length (s .counts) ≤ s .live))
         → holds (laidOut c t o .result .counters) (laidOut c t o .table) ≡ true
     unfolding laidOut laid
-    laidOut-holds h sorted = go o fits sorted
+    laidOut-holds h sound = go o fits sound
       where
-        go : (p : Outcome State) → ((s : State) → p ≡ taken s → length (s .counts) ≤ roomOf t) → ((s : State) → p ≡ taken s → ordered (s .next) (s .counts) ≡ true)
+        go : (p : Outcome State) → ((s : State) → p ≡ taken s → length (s .counts) ≤ roomOf t)
+            → ((s : State) → p ≡ taken s → (ordered (s .next) (s .counts) ≡ true) × (length (s .counts) ≤ s .live))
             → holds (laidOut c t p .result .counters) (laidOut c t p .table) ≡ true
         go (refused r) f g = h
-        go (taken s) f g = holds-laid s (length t) (omega (arith, f s refl)) (g s refl)
+        go (taken s) f g = holds-laid s (length t) (omega (arith, f s refl)) (g s refl .0) (g s refl .1)
 
     laidOut-state : (s : State) → o ≡ taken s → stateOf (laidOut c t o .result .counters) (laidOut c t o .table) ≡ s
     unfolding laidOut laid
@@ -222,9 +226,11 @@ module _ (c : Counters) (t ws : List ℕ) where
   fits : (s′ : State) → outcome ≡ taken s′ → length (s′ .counts) ≤ roomOf t
   fits s′ e = let a = accepted s′ e in taken-fits (roomOf t) (stateOf c t) (a .transitions) s′ (a .applied)
 
-  sorted : holds c t ≡ true → (s′ : State) → outcome ≡ taken s′ → ordered (s′ .next) (s′ .counts) ≡ true
+  sound : holds c t ≡ true → (s′ : State) → outcome ≡ taken s′ → (ordered (s′ .next) (s′ .counts) ≡ true) × (length (s′ .counts) ≤ s′ .live)
   unfolding stateOf
-  sorted h s′ e = let a = accepted s′ e in taken-ordered (roomOf t) (stateOf c t) (a .transitions) s′ (a .applied) (held c t h .sorted)
+  sound h s′ e =
+      let a = accepted s′ e in
+      (taken-ordered (roomOf t) (stateOf c t) (a .transitions) s′ (a .applied) (held c t h .sorted), bounded-after (roomOf t) (stateOf c t) (a .transitions) s′ (a .applied))
 
   -- on a record and a table that hold a state, words that spell a batch do what the batch does
   pub batch-held : (ts : List CounterTransition) → holds c t ≡ true → batchOf ws ≡ some ts → batchCall c t ws ≡ laidOut c t (applyBatch (roomOf t) (stateOf c t) ts)
@@ -234,7 +240,7 @@ module _ (c : Counters) (t ws : List ℕ) where
   -- whatever the answer, they hold a state after it
   pub batch-holds : holds c t ≡ true → holds (batchCall c t ws .result .counters) (batchCall c t ws .table) ≡ true
   unfolding batchCall outcome
-  batch-holds h = laidOut-holds c t outcome fits h (sorted h)
+  batch-holds h = laidOut-holds c t outcome fits h (sound h)
 
   -- the table keeps its length
   pub batch-length : length (batchCall c t ws .table) ≡ length t
@@ -284,18 +290,18 @@ module _ (c : Counters) (t ws : List ℕ) where
       go true h false w = ((λ e. inr (eqb-false (length ws % 3) 0 w)), λ s. said .1 (outcome-ragged h (ragged-words ws w)))
       go false h d w = ((λ e. inl refl), λ s. said .1 (outcome-broken h))
 
-  -- 20, 2, 3, 5, 4 or 6, and no other
-  pub batch-call-numbers : (q : Refusal) → batchCall c t ws .result .answer ≡ Refused q → elem (numberOf q) (20 ∷ 2 ∷ 3 ∷ 5 ∷ 4 ∷ 6 ∷ []) ≡ true
+  -- 20, 2, 3, 5, 4, 6 or 25, and no other
+  pub batch-call-numbers : (q : Refusal) → batchCall c t ws .result .answer ≡ Refused q → elem (numberOf q) (20 ∷ 2 ∷ 3 ∷ 5 ∷ 4 ∷ 6 ∷ 25 ∷ []) ≡ true
   unfolding batchCall outcome any
   batch-call-numbers q e = go (holds c t) refl (batchOf ws) refl
     where
       given : outcome ≡ refused q
       given = answer-refused outcome q .0 (sym (laidOut-answer c t outcome) ∙ e)
 
-      broken : outcome ≡ refused Broken → elem (numberOf q) (20 ∷ 2 ∷ 3 ∷ 5 ∷ 4 ∷ 6 ∷ []) ≡ true
+      broken : outcome ≡ refused Broken → elem (numberOf q) (20 ∷ 2 ∷ 3 ∷ 5 ∷ 4 ∷ 6 ∷ 25 ∷ []) ≡ true
       broken f = let same : q ≡ Broken = let g = sym f ∙ given in cc in rw same
 
-      go : (b : Bool) → holds c t ≡ b → (m : Option (List CounterTransition)) → batchOf ws ≡ m → elem (numberOf q) (20 ∷ 2 ∷ 3 ∷ 5 ∷ 4 ∷ 6 ∷ []) ≡ true
+      go : (b : Bool) → holds c t ≡ b → (m : Option (List CounterTransition)) → batchOf ws ≡ m → elem (numberOf q) (20 ∷ 2 ∷ 3 ∷ 5 ∷ 4 ∷ 6 ∷ 25 ∷ []) ≡ true
       go true h none w = broken (outcome-ragged h w)
       go true h (some ts) w = rw (batch-numbers (roomOf t) (stateOf c t) ts q (sym (outcome-held ts h w) ∙ given)) (or-true (eqb (numberOf q) 20))
       go false h m w = broken (outcome-broken h)

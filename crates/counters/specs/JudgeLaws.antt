@@ -2,31 +2,31 @@
 -- Assumes nothing.
 use mathlib.Core.Path.{_≡_, refl, sym, ap, _∙_}
 use mathlib.Core.Bool.{Bool, true, false, _||_}
-use mathlib.Core.List.{List, map}
-use Prim.Native.Nat.{ℕ, _+_, _-_, _*_, _/_, _%_, _^_, _≤_, _<_}
+use mathlib.Core.List.{List}
+use Prim.Native.Nat.{ℕ, _+_, _-_, _/_, _%_, _^_, _≤_, _<_}
 use native.Mathlib.Omega.{arith}
-use lib.Dec.{leb, ltb, eqb}
+use lib.Dec.{ltb}
 use lib.ListN.{length}
-use borrow.Author.Tests.{eq-eqb, ne-eqb, le-ltb, ltb-false}
+use borrow.Author.Tests.{eq-eqb, ne-eqb, ltb-false}
 use Rattle.base.specs.Logic.{any, keep, repeated, max64}
-use Rattle.base.specs.ListLaws.{or-false}
 use Rattle.base.specs.SumLaws.{length-keep}
-use Rattle.base.specs.Answers.{Outcome, refused, taken}
+use Rattle.base.specs.Answers.{refused, taken}
 use Rattle.base.specs.declared.Refusal.{Refusal}
 use Rattle.base.specs.declared.Answer.the-variants.{Taken, Refused}
-use Rattle.base.specs.declared.Refusal.the-variants.{Unallocated, Repeated, OffTotal, FalseOld, TableFull, Broken}
+use Rattle.base.specs.declared.Refusal.the-variants.{Unallocated, Repeated, OffTotal, FalseOld, TableFull, Broken, FewCells}
 use Rattle.rows.specs.Table.{rowsOf}
 use Rattle.rows.specs.TableLaws.{length-rowsOf}
 use Rattle.counters.specs.declared.Counters.{Counters}
 use Rattle.counters.specs.declared.CounterTransition.{CounterTransition}
-use Rattle.counters.specs.Counts.{Entry, State}
+use Rattle.counters.specs.Counts.{Entry}
 use Rattle.counters.specs.Maintenance.{rises, falls}
-use Rattle.counters.specs.Batch.{changes, birth, death, kept, named, unallocated, falseOld, births, deaths, offTotal, countsAfter, stateAfter, applyKept, applyBatch}
+use Rattle.counters.specs.Batch.{changes, birth, death, kept, named, unallocated, falseOld, births, deaths, offTotal, countsAfter, stateAfter, applyKept, bound, applyBatch}
 use Rattle.counters.specs.Layout.{countRow, transitionRow, roomOf, recordOf, tableOf, stateOf, holds, batchOf}
 use Rattle.counters.specs.LayoutLaws.{held}
 use Rattle.counters.specs.Calls.{effect, onState, laidOut, laid, batchCall}
 use Rattle.counters.specs.Held.{Judged}
 use Rattle.counters.specs.Steps.{transitions}
+use Rattle.counters.specs.StepLaws.{total-left}
 use Rattle.counters.specs.BatchLaws.{length-countsAfter}
 use Rattle.counters.specs.CallLaws.{batch-held}
 
@@ -119,18 +119,36 @@ module _ (c : Counters) (t ws : List ℕ) (h : holds c t ≡ true) (whole : leng
           pub judge-full : ltb (roomOf t) (length (countsAfter ks es)) ≡ true → effect (record { answer = Refused TableFull; counters = c }) t ≡ batchCall c t ws
           judge-full e = refusal TableFull (at-6 e)
 
-          at-0 : ltb (roomOf t) (length (countsAfter ks es)) ≡ false → applyBatch (roomOf t) (stateOf c t) (transitions ws) ≡ taken (stateAfter ks (stateOf c t))
-          unfolding applyBatch applyKept stateOf
-          at-0 e = rw (e₂, e₃, e₅, e₄, e)
+          -- the totals after it, by the births and deaths, and by the rows that come and go
+          pub few-test : (b d r f : ℕ) → b ≡ length (keep birth ks) → d ≡ length (keep death ks) → r ≡ length (keep rises ks) → f ≡ length (keep falls ks)
+              → ltb (c .«live_cells» + b - d) (c .stored + r - f) ≡ ltb (c .«live_cells» + births ks - deaths ks) (length (countsAfter ks es))
+          unfolding births deaths
+          few-test b d r f born died come go =
+              let n : c .stored + r - f ≡ length (countsAfter ks es) = omega (arith, rows-after) in
+              rw (n, born, died)
 
-          pub judged : ltb (roomOf t) (length (countsAfter ks es)) ≡ false → Judged c t ws
-          unfolding roomOf
-          judged e = record { holding = h; once = e₃; total = e₄; fits = omega (arith, ltb-false (length t / 2) (length (countsAfter ks es)) e) }
+          module _ (e₆ : ltb (roomOf t) (length (countsAfter ks es)) ≡ false) where
+            at-25 : ltb (c .«live_cells» + births ks - deaths ks) (length (countsAfter ks es)) ≡ true
+                → applyBatch (roomOf t) (stateOf c t) (transitions ws) ≡ refused FewCells
+            unfolding applyBatch applyKept bound stateAfter stateOf
+            at-25 e = rw (e₂, e₃, e₅, e₄, e₆, e)
 
-          pub judge-taken : ltb (roomOf t) (length (countsAfter ks es)) ≡ false
-              → effect (record { answer = Taken; counters = recordOf (stateAfter ks (stateOf c t)) }) (tableOf (length t) (stateAfter ks (stateOf c t))) ≡ batchCall c t ws
-          unfolding laidOut laid
-          judge-taken e = sym (whole-batch ∙ ap (laidOut c t) (at-0 e))
+            pub judge-few : ltb (c .«live_cells» + births ks - deaths ks) (length (countsAfter ks es)) ≡ true
+                → effect (record { answer = Refused FewCells; counters = c }) t ≡ batchCall c t ws
+            judge-few e = refusal FewCells (at-25 e)
+
+            at-0 : ltb (c .«live_cells» + births ks - deaths ks) (length (countsAfter ks es)) ≡ false
+                → applyBatch (roomOf t) (stateOf c t) (transitions ws) ≡ taken (stateAfter ks (stateOf c t))
+            unfolding applyBatch applyKept bound stateAfter stateOf
+            at-0 e = rw (e₂, e₃, e₅, e₄, e₆, e)
+
+            pub judged : Judged c t ws
+            judged = record { holding = h; once = e₃; total = e₄; fits = omega (arith, ltb-false (length t / 2) (length (countsAfter ks es)) e₆) }
+
+            pub judge-taken : ltb (c .«live_cells» + births ks - deaths ks) (length (countsAfter ks es)) ≡ false
+                → effect (record { answer = Taken; counters = recordOf (stateAfter ks (stateOf c t)) }) (tableOf (length t) (stateAfter ks (stateOf c t))) ≡ batchCall c t ws
+            unfolding laidOut laid
+            judge-taken e = sym (whole-batch ∙ ap (laidOut c t) (at-0 e))
 
 -- ---- the total, by its two figures
 module _ (live : ℕ) (ks : List CounterTransition) where
@@ -144,5 +162,5 @@ module _ (live : ℕ) (ks : List CounterTransition) where
   pub total-within : offTotal live ks ≡ false → (live + length (keep birth ks) ≤ 2 ^ 64 - 1) × (length (keep death ks) ≤ live + length (keep birth ks))
   unfolding offTotal births deaths
   total-within e =
-      let f = or-false (ltb max64 (live + length (keep birth ks))) (ltb (live + length (keep birth ks)) (length (keep death ks))) e in
-      (ltb-false max64 (live + length (keep birth ks)) (f .0), ltb-false (live + length (keep birth ks)) (length (keep death ks)) (f .1))
+      let f = total-left live (length (keep birth ks)) (length (keep death ks)) e in
+      (omega (arith, f .0), f .1)

@@ -27,9 +27,9 @@ state next live es = record { next = next; live = live; counts = es; maintenance
 abbrev one : ℕ → ℕ → List Entry
 one i n = record { idx = i; count = n } ∷ []
 
--- a state record at a next index that tells of some rows
+-- a state record at a next index that tells of some rows and of as many cells
 abbrev recordAt : ℕ → ℕ → Counters
-recordAt next stored = record { «next_idx» = record { 0 = next }; «live_cells» = 0; stored = stored; maintenance = freshMaintenance 0 }
+recordAt next stored = record { «next_idx» = record { 0 = next }; «live_cells» = stored; stored = stored; maintenance = freshMaintenance 0 }
 
 -- the number that a batch is answered with, on a record and a table; and on a state in a table of a given length
 abbrev batchOn : Counters → List ℕ → List ℕ → ℕ
@@ -43,7 +43,7 @@ abbrev get : Counters → List ℕ → ℕ → ℕ
 get c t i = answerNumber (getCall c t (record { 0 = i }) .answer)
 
 pub record RefusalOrder : Type 0 where
-  -- batch: 2, 3, 5, 4, 6
+  -- batch: 2, 3, 5, 4, 6, 25
   -- index 0 twice, with nothing allocated
   two-before-three : batch (state 0 0 []) 0 (0 ∷ 0 ∷ 2 ∷ 0 ∷ 0 ∷ 2 ∷ []) ≡ 2
   -- index 0 twice, with an old count that isn't the stored one
@@ -52,6 +52,10 @@ pub record RefusalOrder : Type 0 where
   five-before-four : batch (state 1 0 []) 0 (0 ∷ 5 ∷ 0 ∷ []) ≡ 5
   -- a birth too many, and no room for its count
   four-before-six : batch (state 1 max64 []) 0 (0 ∷ 0 ∷ 2 ∷ []) ≡ 4
+  -- no room for a count, and no cell
+  six-before-twenty-five : batch (state 1 0 []) 0 (0 ∷ 1 ∷ 2 ∷ []) ≡ 6
+  -- no cell for a count, no room for it, and a death too many
+  four-before-twenty-five : batch (state 2 0 []) 0 (0 ∷ 1 ∷ 2 ∷ 1 ∷ 1 ∷ 0 ∷ []) ≡ 4
   -- each test is over the whole batch: a later transition is given the earlier refusal
   two-over-all : batch (state 1 0 []) 2 (0 ∷ 5 ∷ 2 ∷ 1 ∷ 0 ∷ 2 ∷ []) ≡ 2
   three-over-all : batch (state 2 0 []) 4 (0 ∷ 5 ∷ 2 ∷ 1 ∷ 0 ∷ 2 ∷ 1 ∷ 0 ∷ 2 ∷ []) ≡ 3
@@ -84,7 +88,7 @@ pub record RefusalBounds : Type 0 where
   deaths-over : batch (state 1 0 []) 0 (0 ∷ 1 ∷ 0 ∷ []) ≡ 4
   -- 5: with nothing stored 0 and 1 are taken at their word, and 2 isn't
   old-zero : batch (state 1 0 []) 2 (0 ∷ 0 ∷ 2 ∷ []) ≡ 0
-  old-one : batch (state 1 0 []) 2 (0 ∷ 1 ∷ 2 ∷ []) ≡ 0
+  old-one : batch (state 1 1 []) 2 (0 ∷ 1 ∷ 2 ∷ []) ≡ 0
   old-two : batch (state 1 0 []) 2 (0 ∷ 2 ∷ 3 ∷ []) ≡ 5
   -- 5: with 2 stored the old count is 2, and not one less or more
   old-stored : batch (state 1 1 (one 0 2)) 2 (0 ∷ 2 ∷ 3 ∷ []) ≡ 0
@@ -96,6 +100,16 @@ pub record RefusalBounds : Type 0 where
   -- 6: stored counts after the call count, so one that goes makes room for one that comes
   full-by-one : batch (state 2 2 (one 0 2)) 2 (1 ∷ 1 ∷ 2 ∷ []) ≡ 6
   room-made : batch (state 2 2 (one 0 2)) 2 (1 ∷ 1 ∷ 2 ∷ 0 ∷ 2 ∷ 1 ∷ []) ≡ 0
+  -- 25: a count and no cell, and a cell for it
+  few : batch (state 1 0 []) 2 (0 ∷ 1 ∷ 2 ∷ []) ≡ 25
+  enough : batch (state 1 0 []) 2 (0 ∷ 0 ∷ 2 ∷ []) ≡ 0
+  -- 25: another cell dies, and the count at its index goes with it
+  few-by-death : batch (state 2 1 (one 0 2)) 2 (1 ∷ 1 ∷ 0 ∷ []) ≡ 25
+  gone-by-death : batch (state 2 1 (one 0 2)) 2 (0 ∷ 2 ∷ 0 ∷ []) ≡ 0
+  -- 25: the totals after the whole batch count, so one that is born makes a cell for one that isn't
+  cell-made : batch (state 2 0 []) 2 (0 ∷ 1 ∷ 2 ∷ 1 ∷ 0 ∷ 1 ∷ []) ≡ 0
+  -- 25: what the next index is doesn't count
+  few-allocated : batch (state 9 0 []) 2 (0 ∷ 1 ∷ 2 ∷ []) ≡ 25
   -- a refused batch leaves the record and the table
   unchanged : batchCall (recordAt 1 1) (0 ∷ 2 ∷ []) (0 ∷ 3 ∷ 4 ∷ [])
       ≡ record { result = record { answer = Refused FalseOld; counters = recordAt 1 1 }; table = 0 ∷ 2 ∷ [] }
@@ -115,6 +129,8 @@ pub record BrokenTables : Type 0 where
   zero-after : get (recordAt 1 0) (0 ∷ 0 ∷ 0 ∷ []) 0 ≡ 0
   stray-row : get (recordAt 1 0) (0 ∷ 2 ∷ 0 ∷ []) 0 ≡ 20
   stray-word : get (recordAt 1 0) (0 ∷ 0 ∷ 2 ∷ []) 0 ≡ 20
+  -- fewer cells than rows
+  few-cells : get (record { «next_idx» = record { 0 = 1 }; «live_cells» = 0; stored = 1; maintenance = freshMaintenance 0 }) (0 ∷ 2 ∷ []) 0 ≡ 20
   -- more rows than words
   short-table : get (recordAt 1 1) (0 ∷ []) 0 ≡ 20
   -- words of a batch that are no multiple of 3
@@ -169,6 +185,8 @@ refusal-order =
       three-before-five = refl;
       five-before-four = refl;
       four-before-six = refl;
+      six-before-twenty-five = refl;
+      four-before-twenty-five = refl;
       two-over-all = refl;
       three-over-all = refl;
       five-over-all = refl;
@@ -205,6 +223,12 @@ refusal-bounds =
       not-full = refl;
       full-by-one = refl;
       room-made = refl;
+      few = refl;
+      enough = refl;
+      few-by-death = refl;
+      gone-by-death = refl;
+      cell-made = refl;
+      few-allocated = refl;
       unchanged = refl;
     }
 
@@ -221,6 +245,7 @@ broken-tables =
       zero-after = refl;
       stray-row = refl;
       stray-word = refl;
+      few-cells = refl;
       short-table = refl;
       ragged-one = refl;
       ragged-two = refl;

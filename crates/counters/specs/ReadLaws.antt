@@ -1,11 +1,11 @@
 -- Making counters, allocation and reading a count, way by way.
 -- Assumes nothing.
-use mathlib.Core.Path.{_≡_, refl, sym, ap, _∙_}
-use mathlib.Core.Bool.{Bool, true, false}
-use mathlib.Core.List.{List, [], append-nil}
+use mathlib.Core.Path.{_≡_, _∙_}
+use mathlib.Core.Bool.{true, false}
+use mathlib.Core.List.{List, append-nil}
 use Prim.Native.Nat.{ℕ, _+_, _*_, _-_, _^_, _≤_, _<_, max}
 use native.Mathlib.Omega.{arith}
-use lib.ListN.{length, drop, length-replicate}
+use lib.ListN.{length, length-replicate}
 use lib.Seq.{paste, drop-length}
 use borrow.Author.Tests.{le-leb, lt-leb, eq-eqb, ne-eqb}
 use Rattle.base.specs.Logic.{flat, zeros, overlay, max64}
@@ -16,7 +16,7 @@ use Rattle.rows.specs.Table as rows
 use Rattle.rows.specs.Table.{rowsOf}
 use Rattle.counters.specs.declared.Counters.{Counters}
 use Rattle.counters.specs.declared.Idx.{Idx}
-use Rattle.counters.specs.Counts.{State, storedAt, countAt, fresh, get, allocate}
+use Rattle.counters.specs.Counts.{storedAt, countAt, fresh, get, allocate}
 use Rattle.counters.specs.Layout.{countRow, tableOf, stateOf, holds, withNext}
 use Rattle.counters.specs.Calls.{onState, allocated, allocCall, getCall}
 

@@ -2,7 +2,7 @@
 -- Assumes nothing.
 use mathlib.Core.Path.{_≡_, refl, sym, ap}
 use mathlib.Core.Logic.{_↔_, _⊎_, inl, inr}
-use mathlib.Core.Bool.{Bool, true, false, not}
+use mathlib.Core.Bool.{Bool, true, false, not, false≢true}
 use mathlib.Core.List.{List, [], _∷_}
 use Prim.Native.Nat.{ℕ, _+_, _-_, _≤_, _<_, max}
 use native.Mathlib.Omega.{arith}
@@ -10,13 +10,16 @@ use lib.ListN.{length}
 use lib.Dec.{ltb, eqb}
 use borrow.Author.Tests.{ltb-true, lt-ltb, eqb-true, eqb-false, ne-eqb, not-true}
 use Rattle.base.specs.Logic.{pick, any, elem, repeated, max64}
-use Rattle.base.specs.Answers.{refused, taken}
+use Rattle.base.specs.Answers.{refused, taken, numberOf}
 use Rattle.base.specs.ListLaws.{leb-le, ltb-lt, eqb-eq, fails-not, or-either, Some, Two, some-weaker, any-some, elem-some, repeated-two}
-use Rattle.base.specs.declared.Refusal.the-variants.{Spent, Unallocated, Repeated, OffTotal, FalseOld, TableFull}
+use Rattle.base.specs.AnswerLaws.{exactly}
+use Rattle.base.specs.declared.Refusal.{Refusal}
+use Rattle.base.specs.declared.Refusal.the-variants.{Spent, Unallocated, Repeated, OffTotal, FalseOld, TableFull, FewCells}
 use Rattle.counters.specs.declared.CounterTransition.{CounterTransition}
 use Rattle.counters.specs.Counts.{Entry, State, storedAt, countAt, allocate, get}
 use Rattle.counters.specs.Batch.{named, unallocated, kept, births, deaths, falseOld, offTotal, countsAfter, stateAfter, applyKept, applyBatch}
 use Rattle.counters.specs.Layout.{ordered}
+use Rattle.counters.specs.BoundLaws.{bound-other, bound-few, bound-taken, bound-numbers}
 use Rattle.counters.specs.BatchLaws.{ordered-countsAfter, count-named, count-unnamed}
 use Rattle.base.specs.OutcomeLaws.{flat-three, flat-four, flat-five, flat-six, other-number, refused-taken, taken-refused, taken-same, ends-here, ends-later, never-ends, Refuses, refuses-none, refuses-step}
 
@@ -93,6 +96,10 @@ module _ (s : State) (ts : List CounterTransition) where
   abbrev pub ExceedsTable : ℕ → Type 0
   ExceedsTable room = room < length (countsAfter (kept ts) (s .counts))
 
+  -- stored counts after the call exceed the live total after it
+  abbrev pub ExceedsCells : Type 0
+  ExceedsCells = s .live + births (kept ts) - deaths (kept ts) < length (countsAfter (kept ts) (s .counts))
+
 module _ (room : ℕ) (s : State) (ts : List CounterTransition) where
   unallocated-test : (any (unallocated (s .next)) (kept ts) ≡ true) ↔ ChangesUnallocated s ts
   unallocated-test = any-some (unallocated (s .next)) (λ t. leb-le (s .next) (t .idx .0)) (kept ts)
@@ -112,57 +119,25 @@ module _ (room : ℕ) (s : State) (ts : List CounterTransition) where
   full-test : (ltb room (length (countsAfter (kept ts) (s .counts))) ≡ true) ↔ ExceedsTable s ts room
   full-test = ltb-lt room (length (countsAfter (kept ts) (s .counts)))
 
-  -- 2, unallocated: an index at or above the next one is changed
-  pub batch-unallocated : (applyBatch room s ts ≡ refused Unallocated) ↔ ChangesUnallocated s ts
-  unfolding applyBatch applyKept
-  batch-unallocated =
-      ends-here unallocated-test
-      (never-ends repeated-test (other-number (omega arith)) (never-ends falseOld-test (other-number (omega arith)) (never-ends offTotal-test (other-number (omega arith)) (never-ends full-test (other-number (omega arith)) taken-refused))))
+  -- by the totals that are left
+  few-left : (stateAfter (kept ts) s .live < length (stateAfter (kept ts) s .counts)) ↔ ExceedsCells s ts
+  unfolding stateAfter
+  few-left = (λ h. h, λ h. h)
 
-  -- 3, repeated: two kept transitions of a batch name one index
-  pub batch-repeated : (applyBatch room s ts ≡ refused Repeated) ↔ ((¬ ChangesUnallocated s ts) × NamesTwice ts)
-  unfolding applyBatch applyKept
-  batch-repeated =
-      ends-later unallocated-test (other-number (omega arith))
-      (ends-here repeated-test (never-ends falseOld-test (other-number (omega arith)) (never-ends offTotal-test (other-number (omega arith)) (never-ends full-test (other-number (omega arith)) taken-refused))))
+  -- the tests of the kept transitions, before 25
+  kept-numbers : Refuses (2 ∷ 3 ∷ 5 ∷ 4 ∷ 6 ∷ []) (applyKept room s (kept ts))
+  unfolding applyKept
+  kept-numbers =
+      refuses-step Unallocated (3 ∷ 5 ∷ 4 ∷ 6 ∷ []) unallocated-test
+      (refuses-step Repeated (5 ∷ 4 ∷ 6 ∷ []) repeated-test
+      (refuses-step FalseOld (4 ∷ 6 ∷ []) falseOld-test
+      (refuses-step OffTotal (6 ∷ []) offTotal-test
+      (refuses-step TableFull [] full-test (refuses-none [] (stateAfter (kept ts) s))))))
 
-  -- 5, false old: an old count isn't the stored one; with none stored, it isn't 0 or 1
-  pub batch-false-old : (applyBatch room s ts ≡ refused FalseOld) ↔ ((¬ ChangesUnallocated s ts) × (¬ NamesTwice ts) × HasFalseOld s ts)
-  unfolding applyBatch applyKept
-  batch-false-old =
-      flat-three
-      (ends-later unallocated-test (other-number (omega arith))
-      (ends-later repeated-test (other-number (omega arith))
-      (ends-here falseOld-test (never-ends offTotal-test (other-number (omega arith)) (never-ends full-test (other-number (omega arith)) taken-refused)))))
-
-  -- 4, off total: live + births exceeds 2^64 − 1, or deaths exceed live + births
-  pub batch-off-total : (applyBatch room s ts ≡ refused OffTotal)
-      ↔ ((¬ ChangesUnallocated s ts) × (¬ NamesTwice ts) × (¬ HasFalseOld s ts) × LeavesTotal s ts)
-  unfolding applyBatch applyKept
-  batch-off-total =
-      flat-four
-      (ends-later unallocated-test (other-number (omega arith))
-      (ends-later repeated-test (other-number (omega arith))
-      (ends-later falseOld-test (other-number (omega arith))
-      (ends-here offTotal-test (never-ends full-test (other-number (omega arith)) taken-refused)))))
-
-  -- 6, table full: stored counts after the call exceed the table
-  pub batch-table-full : (applyBatch room s ts ≡ refused TableFull)
-      ↔ ((¬ ChangesUnallocated s ts) × (¬ NamesTwice ts) × (¬ HasFalseOld s ts) × (¬ LeavesTotal s ts) × ExceedsTable s ts room)
-  unfolding applyBatch applyKept
-  batch-table-full =
-      flat-five
-      (ends-later unallocated-test (other-number (omega arith))
-      (ends-later repeated-test (other-number (omega arith))
-      (ends-later falseOld-test (other-number (omega arith))
-      (ends-later offTotal-test (other-number (omega arith))
-      (ends-here full-test taken-refused)))))
-
-  -- taken: none of the five
-  pub batch-taken : (s′ : State) → (applyBatch room s ts ≡ taken s′)
+  kept-taken : (s′ : State) → (applyKept room s (kept ts) ≡ taken s′)
       ↔ ((¬ ChangesUnallocated s ts) × (¬ NamesTwice ts) × (¬ HasFalseOld s ts) × (¬ LeavesTotal s ts) × (¬ ExceedsTable s ts room) × (s′ ≡ stateAfter (kept ts) s))
-  unfolding applyBatch applyKept
-  batch-taken s′ =
+  unfolding applyKept
+  kept-taken s′ =
       flat-six
       (ends-later unallocated-test refused-taken
       (ends-later repeated-test refused-taken
@@ -170,21 +145,101 @@ module _ (room : ℕ) (s : State) (ts : List CounterTransition) where
       (ends-later offTotal-test refused-taken
       (ends-later full-test refused-taken (taken-same (stateAfter (kept ts) s) s′))))))
 
+  -- the numbers but 25 are theirs
+  before : {q : Refusal} → (numberOf FewCells ≡ numberOf q → ⊥) → (applyBatch room s ts ≡ refused q) ↔ (applyKept room s (kept ts) ≡ refused q)
+  unfolding applyBatch
+  before other = bound-other (applyKept room s (kept ts)) other
+
+  -- 2, unallocated: an index at or above the next one is changed
+  pub batch-unallocated : (applyBatch room s ts ≡ refused Unallocated) ↔ ChangesUnallocated s ts
+  unfolding applyKept
+  batch-unallocated =
+      exactly (before (omega arith))
+      (ends-here unallocated-test
+      (never-ends repeated-test (other-number (omega arith)) (never-ends falseOld-test (other-number (omega arith)) (never-ends offTotal-test (other-number (omega arith)) (never-ends full-test (other-number (omega arith)) taken-refused)))))
+
+  -- 3, repeated: two kept transitions of a batch name one index
+  pub batch-repeated : (applyBatch room s ts ≡ refused Repeated) ↔ ((¬ ChangesUnallocated s ts) × NamesTwice ts)
+  unfolding applyKept
+  batch-repeated =
+      exactly (before (omega arith))
+      (ends-later unallocated-test (other-number (omega arith))
+      (ends-here repeated-test (never-ends falseOld-test (other-number (omega arith)) (never-ends offTotal-test (other-number (omega arith)) (never-ends full-test (other-number (omega arith)) taken-refused)))))
+
+  -- 5, false old: an old count isn't the stored one; with none stored, it isn't 0 or 1
+  pub batch-false-old : (applyBatch room s ts ≡ refused FalseOld) ↔ ((¬ ChangesUnallocated s ts) × (¬ NamesTwice ts) × HasFalseOld s ts)
+  unfolding applyKept
+  batch-false-old =
+      exactly (before (omega arith))
+      (flat-three
+      (ends-later unallocated-test (other-number (omega arith))
+      (ends-later repeated-test (other-number (omega arith))
+      (ends-here falseOld-test (never-ends offTotal-test (other-number (omega arith)) (never-ends full-test (other-number (omega arith)) taken-refused))))))
+
+  -- 4, off total: live + births exceeds 2^64 − 1, or deaths exceed live + births
+  pub batch-off-total : (applyBatch room s ts ≡ refused OffTotal)
+      ↔ ((¬ ChangesUnallocated s ts) × (¬ NamesTwice ts) × (¬ HasFalseOld s ts) × LeavesTotal s ts)
+  unfolding applyKept
+  batch-off-total =
+      exactly (before (omega arith))
+      (flat-four
+      (ends-later unallocated-test (other-number (omega arith))
+      (ends-later repeated-test (other-number (omega arith))
+      (ends-later falseOld-test (other-number (omega arith))
+      (ends-here offTotal-test (never-ends full-test (other-number (omega arith)) taken-refused))))))
+
+  -- 6, table full: stored counts after the call exceed the table
+  pub batch-table-full : (applyBatch room s ts ≡ refused TableFull)
+      ↔ ((¬ ChangesUnallocated s ts) × (¬ NamesTwice ts) × (¬ HasFalseOld s ts) × (¬ LeavesTotal s ts) × ExceedsTable s ts room)
+  unfolding applyKept
+  batch-table-full =
+      exactly (before (omega arith))
+      (flat-five
+      (ends-later unallocated-test (other-number (omega arith))
+      (ends-later repeated-test (other-number (omega arith))
+      (ends-later falseOld-test (other-number (omega arith))
+      (ends-later offTotal-test (other-number (omega arith))
+      (ends-here full-test taken-refused))))))
+
+  -- 25, few cells: stored counts after the call exceed the live total after it
+  pub batch-few : (applyBatch room s ts ≡ refused FewCells)
+      ↔ ((¬ ChangesUnallocated s ts) × (¬ NamesTwice ts) × (¬ HasFalseOld s ts) × (¬ LeavesTotal s ts) × (¬ ExceedsTable s ts room) × ExceedsCells s ts)
+  unfolding applyBatch any
+  batch-few =
+      exactly (bound-few (applyKept room s (kept ts)) (λ e. false≢true (kept-numbers FewCells e))) (
+        (λ (s′, e, few). let (a, b, c, d, f, same) = kept-taken s′ .0 e in (a, b, c, d, f, few-left .0 (rw same at few))),
+        λ (a, b, c, d, f, few). (stateAfter (kept ts) s, kept-taken (stateAfter (kept ts) s) .1 (a, b, c, d, f, refl), few-left .1 few),
+      )
+
+  -- taken: none of the six
+  pub batch-taken : (s′ : State) → (applyBatch room s ts ≡ taken s′)
+      ↔ ((¬ ChangesUnallocated s ts) × (¬ NamesTwice ts) × (¬ HasFalseOld s ts) × (¬ LeavesTotal s ts) × (¬ ExceedsTable s ts room) × (¬ ExceedsCells s ts) × (s′ ≡ stateAfter (kept ts) s))
+  unfolding applyBatch
+  batch-taken s′ =
+      exactly (bound-taken (applyKept room s (kept ts)) s′) (
+        (λ (e, many). let (a, b, c, d, f, same) = kept-taken s′ .0 e in (a, b, c, d, f, enough same many, same)),
+        λ (a, b, c, d, f, many, same). (kept-taken s′ .1 (a, b, c, d, f, same), rw same (within many)),
+      )
+    where
+      enough : s′ ≡ stateAfter (kept ts) s → length (s′ .counts) ≤ s′ .live → ¬ ExceedsCells s ts
+      enough same many few =
+          let h = few-left .1 few in
+          let k : length (stateAfter (kept ts) s .counts) ≤ stateAfter (kept ts) s .live = rw same at many in
+          omega arith
+
+      within : ¬ ExceedsCells s ts → length (stateAfter (kept ts) s .counts) ≤ stateAfter (kept ts) s .live
+      within many = let h : ¬ (stateAfter (kept ts) s .live < length (stateAfter (kept ts) s .counts)) = λ l. many (few-left .0 l) in omega arith
+
   -- it is refused with no other number
-  pub batch-numbers : Refuses (2 ∷ 3 ∷ 5 ∷ 4 ∷ 6 ∷ []) (applyBatch room s ts)
-  unfolding applyBatch applyKept
-  batch-numbers =
-      refuses-step Unallocated (3 ∷ 5 ∷ 4 ∷ 6 ∷ []) unallocated-test
-      (refuses-step Repeated (5 ∷ 4 ∷ 6 ∷ []) repeated-test
-      (refuses-step FalseOld (4 ∷ 6 ∷ []) falseOld-test
-      (refuses-step OffTotal (6 ∷ []) offTotal-test
-      (refuses-step TableFull [] full-test (refuses-none [] (stateAfter (kept ts) s))))))
+  pub batch-numbers : Refuses (2 ∷ 3 ∷ 5 ∷ 4 ∷ 6 ∷ 25 ∷ []) (applyBatch room s ts)
+  unfolding applyBatch
+  batch-numbers = bound-numbers (applyKept room s (kept ts)) (2 ∷ 3 ∷ 5 ∷ 4 ∷ 6 ∷ []) kept-numbers
 
 -- ---- a batch that is taken leaves a state
 module _ (room : ℕ) (s : State) (ts : List CounterTransition) (s′ : State) (ok : applyBatch room s ts ≡ taken s′) where
   -- what the kept transitions leave
   pub taken-state : s′ ≡ stateAfter (kept ts) s
-  taken-state = batch-taken room s ts s′ .0 ok .5
+  taken-state = batch-taken room s ts s′ .0 ok .6
 
   pub taken-next : s′ .next ≡ s .next
   unfolding stateAfter
@@ -206,6 +261,13 @@ module _ (room : ℕ) (s : State) (ts : List CounterTransition) (s′ : State) (
   -- and there is room for them
   pub taken-fits : length (s′ .counts) ≤ room
   taken-fits = rw counts-left (omega (arith, batch-taken room s ts s′ .0 ok .4))
+
+  -- no more of them than cells
+  pub bounded-after : length (s′ .counts) ≤ s′ .live
+  unfolding stateAfter
+  bounded-after =
+      let left : s′ .live ≡ s .live + births (kept ts) - deaths (kept ts) = ap (λ (r : State). r .live) taken-state in
+      rw (counts-left, left) (omega (arith, batch-taken room s ts s′ .0 ok .5))
 
   -- the live total grows by the births, then falls by the deaths, and is a u64
   pub taken-live : (s′ .live + deaths (kept ts) ≡ s .live + births (kept ts)) × (s′ .live ≤ max64)

@@ -6,7 +6,6 @@ use mathlib.Core.List.{List, [], _∷_, map}
 use Prim.Native.Nat.{ℕ, zero, suc, _+_, _*_, _≤_, _<_}
 use native.Mathlib.Omega.{arith}
 use native.Mathlib.Decide.{decLe}
-use lib.Dec.{leb, ltb, eqb}
 use borrow.Author.Tests.{le-leb, lt-leb, le-ltb, lt-ltb, eq-eqb, ne-eqb}
 use lib.ListN.{length, drop, getD}
 use lib.Seq.{getD-drop, drop-length}
@@ -121,10 +120,23 @@ module _ (c : Counters) (t : List ℕ) where
   unfolding holds ordered
   holds-not-order e a = rw (e, indices (c .stored) t, a)
 
-  pub holds-sound : holdsRows 2 (c .stored) t ≡ true → ascendingFrom 0 (keys firstWord 2 (c .stored) t) ≡ true
+  pub holds-few : c .«live_cells» < c .stored → holds c t ≡ false
+  unfolding holds
+  holds-few l = rw (lt-leb (c .stored) (c .«live_cells») l) (neither (holdsRows 2 (c .stored) t) (ordered (c .«next_idx» .0) (rowsOf countRow (c .stored) t)))
+    where
+      neither : (a b : Bool) → (a && b && false) ≡ false
+      neither true true = refl
+      neither true false = refl
+      neither false b = refl
+
+  pub holds-sound : c .stored ≤ c .«live_cells» → holdsRows 2 (c .stored) t ≡ true → ascendingFrom 0 (keys firstWord 2 (c .stored) t) ≡ true
       → holds c t ≡ all (sound (c .«next_idx» .0)) (rowsOf countRow (c .stored) t)
   unfolding holds ordered
-  holds-sound e a = rw (e, indices (c .stored) t, a)
+  holds-sound b e a = rw (e, indices (c .stored) t, a, le-leb (c .stored) (c .«live_cells») b) (both (all (sound (c .«next_idx» .0)) (rowsOf countRow (c .stored) t)))
+    where
+      both : (d : Bool) → (d && true) ≡ d
+      both true = refl
+      both false = refl
 
   -- a table that holds a state has its rows in order
   pub in-order : holds c t ≡ true → InOrder (c .stored) t

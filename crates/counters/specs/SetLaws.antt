@@ -9,7 +9,7 @@ use lib.Dec.{eqb}
 use mathlib.Core.Bool.{Bool, true, false}
 use native.Mathlib.Numerals.{add-one}
 use lib.ListN.{length, take, drop, getD, set}
-use lib.Seq.{drop-cons, drop-drop, take-suc, set-split, append-snoc}
+use lib.Seq.{take-suc, set-split, append-snoc}
 use borrow.Author.Tests.{le-leb, lt-leb, eqb-true, eqb-false}
 use Rattle.base.specs.Logic.{zeros}
 use Rattle.rows.specs.Table.{rowsOf, tableOf}

@@ -6,11 +6,11 @@ use mathlib.Core.List.{List, [], _∷_}
 use Prim.Native.Nat.{ℕ, suc, _+_, _-_, _*_, _/_, _^_, _≤_, _<_}
 use native.Mathlib.Omega.{arith}
 use lib.Dec.{ltb, eqb}
-use borrow.Author.Tests.{le-ltb, lt-ltb, eq-eqb, ne-eqb}
+use borrow.Author.Tests.{le-ltb, lt-ltb, ltb-false, eq-eqb, ne-eqb}
 use lib.ListN.{length, drop}
 use lib.Seq.{getD-drop, drop-length}
 use Rattle.base.specs.Logic.{pick, any, elem, keep, repeated, max64}
-use Rattle.base.specs.ListLaws.{length-keep}
+use Rattle.base.specs.ListLaws.{length-keep, or-false}
 use Rattle.rows.specs.TableLaws.{length-rowsOf, drop-row, rows-fit}
 use Rattle.counters.specs.declared.CounterTransition.{CounterTransition}
 use Rattle.counters.specs.Layout.{transitionRow}
@@ -126,3 +126,9 @@ module _ (live births deaths : ℕ) where
 
   pub total-fits : births ≤ 2 ^ 64 - 1 - live → live ≤ 2 ^ 64 - 1 → ltb (live + births) deaths ≡ (ltb max64 (live + births) || ltb (live + births) deaths)
   total-fits h k = rw (le-ltb max64 (live + births) (omega arith))
+
+  -- on total: what is left is a number of 64 bits
+  pub total-left : (ltb max64 (live + births) || ltb (live + births) deaths) ≡ false → (live + births < 2 ^ 64) × (deaths ≤ live + births)
+  total-left e =
+      let f = or-false (ltb max64 (live + births)) (ltb (live + births) deaths) e in
+      (omega (arith, ltb-false max64 (live + births) (f .0)), ltb-false (live + births) deaths (f .1))

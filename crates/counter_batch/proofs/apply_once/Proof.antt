@@ -1,9 +1,11 @@
 -- `counter_batch::apply_once`: a test after the other, each with what the earlier ones left.
 -- Assumes nothing.
 use mathlib.Core.Path.{sym, _∙_}
+use native.Mathlib.Omega.{arith}
 use borrow.Author.Needs.{needs}
 use Rattle.counters.specs.RowLaws.{in-order}
-use Rattle.counters.specs.JudgeLaws.{judge-false-old, judge-off-total, judge-full, judge-taken, judged, room-test, room-asks, total-of}
+use Rattle.counters.specs.StepLaws.{total-left}
+use Rattle.counters.specs.JudgeLaws.{judge-false-old, judge-off-total, judge-full, judge-few, judge-taken, judged, room-test, room-asks, few-test, total-of}
 use Rattle.counters.specs.Batch.{kept}
 use Rattle.counters.specs.Steps.{transitions}
 use Rattle.counter_batch.proofs.apply_once.Statement.{statement}
@@ -63,7 +65,9 @@ exceeds-requires c κs =
     let a = c .before .before .before .before .before .before .before .before .before .before .before .before .args in
     let p = c .before .before .before .before .before .before .before .before .before .before .before .before .pre in
     let o = sym (c .before .before .before .before .before .before .before .before .any-false-old .ensures) ∙ c .before .before .before .before .before .before .before .if1 .left in
-    room-asks (a .c) (a .t .now) (a .b .now) (p .0) (p .1) (p .2) (p .3) o (c .before .tally3 .result) (c .tally4 .result) (c .before .tally3 .ensures) (c .tally4 .ensures) (search needs) (search needs)
+    let z = c .before .before .tally3 in
+    let w = c .before .tally4 in
+    room-asks (a .c) (a .t .now) (a .b .now) (p .0) (p .1) (p .2) (p .3) o (z .result) (w .result) (z .ensures) (w .ensures) (search needs) (search needs)
 
 refused-requires-3 : tie.Need-refused-requires-3
 refused-requires-3 c κs = search needs
@@ -79,40 +83,73 @@ returns-3 c =
     let x = c .before .before .before .before .before .before .before .before .before .tally in
     let y = c .before .before .before .before .before .before .before .before .tally2 in
     let q = sym (c .before .before .before .before .before .before .before .off-total .ensures ∙ total-of (a .c .«live_cells») (kept (transitions (a .b .now))) (x .result) (y .result) (x .ensures) (y .ensures)) ∙ c .before .before .before .before .before .before .if2 .left in
-    let z = c .before .before .before .before .tally3 in
-    let w = c .before .before .before .tally4 in
+    let z = c .before .before .before .before .before .tally3 in
+    let w = c .before .before .before .before .tally4 in
     let r = sym (c .before .before .exceeds .ensures ∙ room-test (a .c) (a .t .now) (a .b .now) (p .0) (p .1) (p .2) (p .3) o (z .result) (w .result) (z .ensures) (w .ensures)) ∙ c .before .if3 .taken in
     rw (c .refused3 .ensures) (judge-full (a .c) (a .t .now) (a .b .now) (p .0) (p .1) (p .2) (p .3) o q r)
 
-taken-requires : tie.Need-taken-requires
-taken-requires c κs =
-    let a = c .before .before .before .before .before .before .before .before .before .before .before .before .before .before .before .args in
-    let p = c .before .before .before .before .before .before .before .before .before .before .before .before .before .before .before .pre in
-    let o = sym (c .before .before .before .before .before .before .before .before .before .before .before .any-false-old .ensures) ∙ c .before .before .before .before .before .before .before .before .before .before .if1 .left in
-    let x = c .before .before .before .before .before .before .before .before .before .tally in
-    let y = c .before .before .before .before .before .before .before .before .tally2 in
-    let q = sym (c .before .before .before .before .before .before .before .off-total .ensures ∙ total-of (a .c .«live_cells») (kept (transitions (a .b .now))) (x .result) (y .result) (x .ensures) (y .ensures)) ∙ c .before .before .before .before .before .before .if2 .left in
+few-cells-requires : tie.Need-few-cells-requires
+few-cells-requires c κs =
+    let a = c .before .before .before .before .before .before .before .before .before .before .before .before .before .before .args in
+    let p = c .before .before .before .before .before .before .before .before .before .before .before .before .before .before .pre in
+    let o = sym (c .before .before .before .before .before .before .before .before .before .before .any-false-old .ensures) ∙ c .before .before .before .before .before .before .before .before .before .if1 .left in
+    let x = c .before .before .before .before .before .before .before .before .tally in
+    let y = c .before .before .before .before .before .before .before .tally2 in
     let z = c .before .before .before .before .tally3 in
     let w = c .before .before .before .tally4 in
-    let r = sym (c .before .before .exceeds .ensures ∙ room-test (a .c) (a .t .now) (a .b .now) (p .0) (p .1) (p .2) (p .3) o (z .result) (w .result) (z .ensures) (w .ensures)) ∙ c .before .if3 .left in
-    judged (a .c) (a .t .now) (a .b .now) (p .0) (p .1) (p .2) (p .3) o q r
+    let n = total-left (a .c .«live_cells») (x .result) (y .result) (sym (c .before .before .before .before .before .before .off-total .ensures) ∙ c .before .before .before .before .before .if2 .left) in
+    (omega (arith, n .0), omega (arith, n .1), room-asks (a .c) (a .t .now) (a .b .now) (p .0) (p .1) (p .2) (p .3) o (z .result) (w .result) (z .ensures) (w .ensures) (search needs) (search needs) .0)
+
+refused-requires-4 : tie.Need-refused-requires-4
+refused-requires-4 c κs = search needs
 
 same-length-4 : tie.Need-same-length-4
 same-length-4 c = search needs
 
 returns-4 : tie.Need-returns-4
 returns-4 c =
-    let a = c .before .before .before .before .before .before .before .before .before .before .before .before .before .before .before .before .before .before .args in
-    let p = c .before .before .before .before .before .before .before .before .before .before .before .before .before .before .before .before .before .before .pre in
-    let o = sym (c .before .before .before .before .before .before .before .before .before .before .before .before .before .before .any-false-old .ensures) ∙ c .before .before .before .before .before .before .before .before .before .before .before .before .before .if1 .left in
-    let x = c .before .before .before .before .before .before .before .before .before .before .before .before .tally in
-    let y = c .before .before .before .before .before .before .before .before .before .before .before .tally2 in
-    let q = sym (c .before .before .before .before .before .before .before .before .before .before .off-total .ensures ∙ total-of (a .c .«live_cells») (kept (transitions (a .b .now))) (x .result) (y .result) (x .ensures) (y .ensures)) ∙ c .before .before .before .before .before .before .before .before .before .if2 .left in
+    let a = c .before .before .before .before .before .before .before .before .before .before .before .before .before .before .before .before .before .args in
+    let p = c .before .before .before .before .before .before .before .before .before .before .before .before .before .before .before .before .before .pre in
+    let o = sym (c .before .before .before .before .before .before .before .before .before .before .before .before .before .any-false-old .ensures) ∙ c .before .before .before .before .before .before .before .before .before .before .before .before .if1 .left in
+    let x = c .before .before .before .before .before .before .before .before .before .before .before .tally in
+    let y = c .before .before .before .before .before .before .before .before .before .before .tally2 in
+    let q = sym (c .before .before .before .before .before .before .before .before .before .off-total .ensures ∙ total-of (a .c .«live_cells») (kept (transitions (a .b .now))) (x .result) (y .result) (x .ensures) (y .ensures)) ∙ c .before .before .before .before .before .before .before .before .if2 .left in
     let z = c .before .before .before .before .before .before .before .tally3 in
     let w = c .before .before .before .before .before .before .tally4 in
-    let r = sym (c .before .before .before .before .before .exceeds .ensures ∙ room-test (a .c) (a .t .now) (a .b .now) (p .0) (p .1) (p .2) (p .3) o (z .result) (w .result) (z .ensures) (w .ensures)) ∙ c .before .before .before .before .if3 .left in
+    let r = sym (c .before .before .before .before .exceeds .ensures ∙ room-test (a .c) (a .t .now) (a .b .now) (p .0) (p .1) (p .2) (p .3) o (z .result) (w .result) (z .ensures) (w .ensures)) ∙ c .before .before .before .if3 .left in
+    let m = sym (c .before .before .few-cells .ensures ∙ few-test (a .c) (a .t .now) (a .b .now) (p .0) (p .1) (p .2) (p .3) o q (x .result) (y .result) (z .result) (w .result) (x .ensures) (y .ensures) (z .ensures) (w .ensures)) ∙ c .before .if4 .taken in
+    rw (c .refused4 .ensures) (judge-few (a .c) (a .t .now) (a .b .now) (p .0) (p .1) (p .2) (p .3) o q r m)
+
+taken-requires : tie.Need-taken-requires
+taken-requires c κs =
+    let a = c .before .before .before .before .before .before .before .before .before .before .before .before .before .before .before .before .before .args in
+    let p = c .before .before .before .before .before .before .before .before .before .before .before .before .before .before .before .before .before .pre in
+    let o = sym (c .before .before .before .before .before .before .before .before .before .before .before .before .before .any-false-old .ensures) ∙ c .before .before .before .before .before .before .before .before .before .before .before .before .if1 .left in
+    let x = c .before .before .before .before .before .before .before .before .before .before .before .tally in
+    let y = c .before .before .before .before .before .before .before .before .before .before .tally2 in
+    let q = sym (c .before .before .before .before .before .before .before .before .before .off-total .ensures ∙ total-of (a .c .«live_cells») (kept (transitions (a .b .now))) (x .result) (y .result) (x .ensures) (y .ensures)) ∙ c .before .before .before .before .before .before .before .before .if2 .left in
+    let z = c .before .before .before .before .before .before .before .tally3 in
+    let w = c .before .before .before .before .before .before .tally4 in
+    let r = sym (c .before .before .before .before .exceeds .ensures ∙ room-test (a .c) (a .t .now) (a .b .now) (p .0) (p .1) (p .2) (p .3) o (z .result) (w .result) (z .ensures) (w .ensures)) ∙ c .before .before .before .if3 .left in
+    judged (a .c) (a .t .now) (a .b .now) (p .0) (p .1) (p .2) (p .3) o q r
+
+same-length-5 : tie.Need-same-length-5
+same-length-5 c = search needs
+
+returns-5 : tie.Need-returns-5
+returns-5 c =
+    let a = c .before .before .before .before .before .before .before .before .before .before .before .before .before .before .before .before .before .before .before .before .args in
+    let p = c .before .before .before .before .before .before .before .before .before .before .before .before .before .before .before .before .before .before .before .before .pre in
+    let o = sym (c .before .before .before .before .before .before .before .before .before .before .before .before .before .before .before .before .any-false-old .ensures) ∙ c .before .before .before .before .before .before .before .before .before .before .before .before .before .before .before .if1 .left in
+    let x = c .before .before .before .before .before .before .before .before .before .before .before .before .before .before .tally in
+    let y = c .before .before .before .before .before .before .before .before .before .before .before .before .before .tally2 in
+    let q = sym (c .before .before .before .before .before .before .before .before .before .before .before .before .off-total .ensures ∙ total-of (a .c .«live_cells») (kept (transitions (a .b .now))) (x .result) (y .result) (x .ensures) (y .ensures)) ∙ c .before .before .before .before .before .before .before .before .before .before .before .if2 .left in
+    let z = c .before .before .before .before .before .before .before .before .before .before .tally3 in
+    let w = c .before .before .before .before .before .before .before .before .before .tally4 in
+    let r = sym (c .before .before .before .before .before .before .before .exceeds .ensures ∙ room-test (a .c) (a .t .now) (a .b .now) (p .0) (p .1) (p .2) (p .3) o (z .result) (w .result) (z .ensures) (w .ensures)) ∙ c .before .before .before .before .before .before .if3 .left in
+    let m = sym (c .before .before .before .before .before .few-cells .ensures ∙ few-test (a .c) (a .t .now) (a .b .now) (p .0) (p .1) (p .2) (p .3) o q (x .result) (y .result) (z .result) (w .result) (x .ensures) (y .ensures) (z .ensures) (w .ensures)) ∙ c .before .before .before .before .if4 .left in
     let k = c .before .before .taken in
-    rw (k .ensures .0, k .ensures .1, k .ensures .2) (judge-taken (a .c) (a .t .now) (a .b .now) (p .0) (p .1) (p .2) (p .3) o q r)
+    rw (k .ensures .0, k .ensures .1, k .ensures .2) (judge-taken (a .c) (a .t .now) (a .b .now) (p .0) (p .1) (p .2) (p .3) o q r m)
 
 pub apply-once-spec : {M : Type 1} → statement M
 apply-once-spec =
@@ -134,6 +171,10 @@ apply-once-spec =
     refused-requires-3
     same-length-3
     returns-3
-    taken-requires
+    few-cells-requires
+    refused-requires-4
     same-length-4
-    returns-4)
+    returns-4
+    taken-requires
+    same-length-5
+    returns-5)

@@ -1,8 +1,12 @@
+-- `counter_walk::judged`: a test after the other.
+-- Assumes nothing.
 use mathlib.Core.Path.{sym, _∙_}
 use Prim.Native.Nat.{_/_}
+use native.Mathlib.Omega.{arith}
 use lib.ListN.{length}
 use borrow.Author.Needs.{needs}
-use Rattle.counter_walk.specs.TurnLaws.{unallocated-ends, repeated-ends, false-old-ends, off-total-ends, full-ends, passes, total-fits}
+use Rattle.counters.specs.StepLaws.{total-left}
+use Rattle.counter_walk.specs.TurnLaws.{unallocated-ends, repeated-ends, false-old-ends, off-total-ends, full-ends, few-ends, passes}
 use Rattle.counter_walk.proofs.judged.Statement.{statement}
 use Rattle.counter_walk.proofs.judged.Tie as tie
 
@@ -55,15 +59,29 @@ returns-5 c =
     let a = c .before .before .before .before .before .before .before .before .before .before .before .before .args in
     c .ended5 .ensures ∙ full-ends (length (a .t .now) / 2) (a .s) (c .before .before .before .before .before .before .before .before .if1 .left) (c .before .before .before .before .before .before .before .if2 .left) (c .before .before .before .before .before .before .if3 .left) (sym (c .before .before .before .before .before .off-total .ensures) ∙ c .before .before .before .before .if4 .left) (c .before .if5 .taken)
 
-accepted-requires : tie.Need-accepted-requires
-accepted-requires c κs =
+few-cells-requires : tie.Need-few-cells-requires
+few-cells-requires c κs =
     let a = c .before .before .before .before .before .before .before .before .before .before .before .args in
-    total-fits (length (a .t .now) / 2) (a .s) (sym (c .before .before .before .before .off-total .ensures) ∙ c .before .before .before .if4 .left)
+    let n = total-left (a .s .counters .«live_cells») (a .s .sums .births) (a .s .sums .deaths) (sym (c .before .before .before .before .off-total .ensures) ∙ c .before .before .before .if4 .left) in
+    (omega (arith, n .0), omega (arith, n .1), search needs)
+
+ended-requires-6 : tie.Need-ended-requires-6
+ended-requires-6 c κs = search needs
 
 returns-6 : tie.Need-returns-6
 returns-6 c =
-    let a = c .before .before .before .before .before .before .before .before .before .before .before .before .args in
-    c .accepted .ensures ∙ passes (length (a .t .now) / 2) (a .s) (c .before .before .before .before .before .before .before .before .if1 .left) (c .before .before .before .before .before .before .before .if2 .left) (c .before .before .before .before .before .before .if3 .left) (sym (c .before .before .before .before .before .off-total .ensures) ∙ c .before .before .before .before .if4 .left) (c .before .if5 .left)
+    let a = c .before .before .before .before .before .before .before .before .before .before .before .before .before .before .args in
+    c .ended6 .ensures ∙ few-ends (length (a .t .now) / 2) (a .s) (c .before .before .before .before .before .before .before .before .before .before .if1 .left) (c .before .before .before .before .before .before .before .before .before .if2 .left) (c .before .before .before .before .before .before .before .before .if3 .left) (sym (c .before .before .before .before .before .before .before .off-total .ensures) ∙ c .before .before .before .before .before .before .if4 .left) (c .before .before .before .if5 .left) (sym (c .before .before .few-cells .ensures) ∙ c .before .if6 .taken)
+
+accepted-requires : tie.Need-accepted-requires
+accepted-requires c κs =
+    let a = c .before .before .before .before .before .before .before .before .before .before .before .before .before .args in
+    total-left (a .s .counters .«live_cells») (a .s .sums .births) (a .s .sums .deaths) (sym (c .before .before .before .before .before .before .off-total .ensures) ∙ c .before .before .before .before .before .if4 .left)
+
+returns-7 : tie.Need-returns-7
+returns-7 c =
+    let a = c .before .before .before .before .before .before .before .before .before .before .before .before .before .before .args in
+    c .accepted .ensures ∙ passes (length (a .t .now) / 2) (a .s) (c .before .before .before .before .before .before .before .before .before .before .if1 .left) (c .before .before .before .before .before .before .before .before .before .if2 .left) (c .before .before .before .before .before .before .before .before .if3 .left) (sym (c .before .before .before .before .before .before .before .off-total .ensures) ∙ c .before .before .before .before .before .before .if4 .left) (c .before .before .before .if5 .left) (sym (c .before .before .few-cells .ensures) ∙ c .before .if6 .left)
 
 pub judged-spec : {M : Type 1} → statement M
 judged-spec =
@@ -82,5 +100,8 @@ judged-spec =
     add-if5-2
     ended-requires-5
     returns-5
+    few-cells-requires
+    ended-requires-6
+    returns-6
     accepted-requires
-    returns-6)
+    returns-7)
