@@ -9,18 +9,22 @@ use Rattle.base.specs.Logic.{flat, from, zeros}
 use Rattle.base.specs.Bytes.{le64}
 use Rattle.base.specs.Answers.{answerNumber, taken}
 use Rattle.base.specs.declared.Answer.the-variants.{Taken, Refused}
-use Rattle.base.specs.declared.Refusal.the-variants.{TornSnapshot, OutputFull}
+use Rattle.base.specs.declared.Refusal.the-variants.{TornSnapshot, TierClash, OutputFull}
 use Rattle.roaring.specs.Write.{write64}
 use Rattle.counters.specs.declared.Counters.{Counters}
 use Rattle.counters.specs.Counts.{State, freshMaintenance}
 use Rattle.snapshot.specs.Write.{snapshotBytes}
 use Rattle.snapshot.specs.Read.{readSnapshot}
-use Rattle.snapshot.specs.Calls.{serializeCall, deserializeCall}
+use Rattle.snapshot.specs.Calls.{serializeCall, deserializeCall, loadCall}
 use Rattle.snapshot.specs.Open.{evaluation}
 
--- version and next index; the live total is 0
+-- version, next index and live total
+abbrev headOf : ℕ → ℕ → ℕ → List ℕ
+headOf version next live = version ∷ le64 next ++ le64 live
+
+-- with a live total that is enough for two counts
 abbrev head : ℕ → ℕ → List ℕ
-head version next = version ∷ le64 next ++ le64 0
+head version next = headOf version next 2
 
 -- a payload led by its length
 abbrev led : List ℕ → List ℕ
@@ -41,13 +45,24 @@ unset next rest = head 1 next ++ blank 8 ++ rest
 abbrev withOne : ℕ → ℕ → List ℕ → List ℕ
 withOne next i rest = head 1 next ++ led (write64 (i ∷ [])) ++ blank 7 ++ rest
 
+-- a snapshot with nothing in the sets at a next index and a live total
+abbrev unsetOf : ℕ → ℕ → List ℕ → List ℕ
+unsetOf next live rest = headOf 1 next live ++ blank 8 ++ rest
+
 -- the number that reading bytes into a table is answered with
 abbrev read : List ℕ → List ℕ → ℕ
 read bs t = answerNumber (deserializeCall 0 bs t .result .answer)
 
--- a state record at a next index that tells of some rows
+-- a state record at a next index and a live total that tells of some rows
+abbrev recordOf : ℕ → ℕ → ℕ → ℕ → Counters
+recordOf base next live stored = record { «next_idx» = record { 0 = next }; «live_cells» = live; stored = stored; maintenance = freshMaintenance base }
+
 abbrev recordAt : ℕ → ℕ → ℕ → Counters
-recordAt base next stored = record { «next_idx» = record { 0 = next }; «live_cells» = 0; stored = stored; maintenance = freshMaintenance base }
+recordAt base next stored = recordOf base next 2 stored
+
+-- the number that loading bytes into a table is answered with
+abbrev load : List ℕ → List ℕ → ℕ
+load bs t = answerNumber (loadCall 0 bs t .result .answer)
 
 pub record RefusalOrder : Type 0 where
   -- an empty snapshot comes before its version
@@ -66,6 +81,10 @@ pub record RefusalOrder : Type 0 where
   ragged-before-eleven : read (unset 0 (big 0 257 ++ 0 ∷ [])) [] ≡ 10
   -- an index that isn't below the next one, and no room for its count
   eleven-before-six : read (unset 0 (big 0 257)) [] ≡ 11
+  -- no room for a count, and no cell
+  six-before-twenty-five : read (unsetOf 1 0 (big 0 257)) [] ≡ 6
+  -- an index that isn't below the next one, and no cell for its count
+  eleven-before-twenty-five : read (unsetOf 0 0 (big 0 257)) (zeros 2) ≡ 11
   -- writing: broken tables, and an output that is too short
   broken-before-output : answerNumber (serializeCall (recordAt 0 0 0) (7 ∷ []) [] .result .answer) ≡ 20
 
@@ -96,19 +115,43 @@ pub record RefusalBounds : Type 0 where
   two-indices : read (withOne 2 0 (big 1 257)) (zeros 4) ≡ 0
   -- 6: room for one count less, and for both
   full : read (withOne 2 0 (big 1 257)) (zeros 3) ≡ 6
+  -- 25: a count and no cell, and a cell for it
+  few : read (unsetOf 1 0 (big 0 257)) (zeros 2) ≡ 25
+  enough : read (unsetOf 1 1 (big 0 257)) (zeros 2) ≡ 0
+  -- 25: a repeated large index is one count
+  repeated-enough : read (unsetOf 1 1 (big 0 258 ++ big 0 257)) (zeros 2) ≡ 0
   -- a repeated large index is no clash, takes the last count and needs one row;
   -- the table may have any content, so that 20 is never given
   repeated : deserializeCall 131072 (unset 1 (big 0 258 ++ big 0 257)) (9 ∷ 9 ∷ 9 ∷ [])
       ≡ record { result = record { answer = Taken; counters = recordAt 131072 1 1 }; table = 0 ∷ 257 ∷ 0 ∷ [] }
   -- a refusal leaves the table, and its record is all zeros
   unchanged : deserializeCall 131072 [] (9 ∷ 9 ∷ 9 ∷ [])
-      ≡ record { result = record { answer = Refused TornSnapshot; counters = recordAt 0 0 0 }; table = 9 ∷ 9 ∷ 9 ∷ [] }
+      ≡ record { result = record { answer = Refused TornSnapshot; counters = recordOf 0 0 0 0 }; table = 9 ∷ 9 ∷ 9 ∷ [] }
   -- 15: an output one byte too short, which isn't touched; one that fits, and one with a byte beyond the answer
   output-short : serializeCall (recordAt 0 0 0) [] (replicate 144 9)
       ≡ record { result = record { answer = Refused OutputFull; len = 0 }; out = replicate 144 9 }
   output-fits : serializeCall (recordAt 0 0 0) [] (replicate 145 9) ≡ record { result = record { answer = Taken; len = 145 }; out = unset 0 [] }
   output-long : serializeCall (recordAt 0 0 0) [] (replicate 146 9)
       ≡ record { result = record { answer = Taken; len = 145 }; out = unset 0 [] ++ 9 ∷ [] }
+
+pub record LoadLines : Type 0 where
+  -- a total below the stored counts is raised to them, and told
+  raises : loadCall 131072 (unsetOf 2 0 (big 0 257)) (9 ∷ 9 ∷ 9 ∷ [])
+      ≡ record { result = record { answer = Taken; counters = recordOf 131072 2 1 1; «old_total» = 0 }; table = 0 ∷ 257 ∷ 0 ∷ [] }
+  -- one that is enough stays, and is told too
+  keeps : loadCall 131072 (unsetOf 2 7 (big 0 257)) (zeros 2)
+      ≡ record { result = record { answer = Taken; counters = recordOf 131072 2 7 1; «old_total» = 7 }; table = 0 ∷ 257 ∷ [] }
+  -- a repeated large index is one count: the total is raised to 2, not to 3
+  repeated-raises : loadCall 0 (unsetOf 2 1 (big 0 258 ++ big 1 257 ++ big 0 257)) (zeros 4)
+      ≡ record { result = record { answer = Taken; counters = recordOf 0 2 2 2; «old_total» = 1 }; table = 0 ∷ 257 ∷ 1 ∷ 257 ∷ [] }
+  -- the refusals of reading but 25
+  refuses-six : load (unsetOf 1 0 (big 0 257)) [] ≡ 6
+  refuses-eleven : load (unsetOf 0 0 (big 0 257)) (zeros 2) ≡ 11
+  refuses-ten : load (unsetOf 1 0 (big 0 256)) (zeros 2) ≡ 10
+  refuses-seven : load (2 ∷ []) [] ≡ 7
+  -- one leaves the table, its record is all zeros, and the total beside it is 0
+  refused-whole : loadCall 131072 (unsetOf 0 7 (big 0 257)) (9 ∷ 9 ∷ [])
+      ≡ record { result = record { answer = Refused TierClash; counters = recordOf 0 0 0 0; «old_total» = 0 }; table = 9 ∷ 9 ∷ [] }
 
 -- next index 772, live total 1541, count 3 at index 5 (code 2: set 1), count 770 at index 6
 abbrev sample : State
@@ -150,6 +193,8 @@ refusal-order =
       ten-before-eleven = refl;
       ragged-before-eleven = refl;
       eleven-before-six = refl;
+      six-before-twenty-five = refl;
+      eleven-before-twenty-five = refl;
       broken-before-output = refl;
     }
 
@@ -175,11 +220,28 @@ refusal-bounds =
       both-tiers = refl;
       two-indices = refl;
       full = refl;
+      few = refl;
+      enough = refl;
+      repeated-enough = refl;
       repeated = refl;
       unchanged = refl;
       output-short = refl;
       output-fits = refl;
       output-long = refl;
+    }
+
+pub load-lines : LoadLines
+unfolding evaluation
+load-lines =
+    record {
+      raises = refl;
+      keeps = refl;
+      repeated-raises = refl;
+      refuses-six = refl;
+      refuses-eleven = refl;
+      refuses-ten = refl;
+      refuses-seven = refl;
+      refused-whole = refl;
     }
 
 pub fields : Fields

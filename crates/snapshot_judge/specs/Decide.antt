@@ -1,4 +1,4 @@
--- What is decided of a snapshot before anything is written: reading, with a plan in the place of the state.
+-- What is decided of a snapshot before anything is written: what it says, with a plan in the place of the state.
 -- Assumes nothing.
 use mathlib.Core.Path.{_≡_}
 use mathlib.Core.Bool.{false}
@@ -8,7 +8,7 @@ use lib.ListN.{length, drop, getD}
 use Rattle.base.specs.Logic.{any}
 use Rattle.base.specs.Answers.{Outcome, refused, taken}
 use Rattle.counters.specs.Counts.{Entry, State}
-use Rattle.snapshot.specs.Read.{readSnapshot}
+use Rattle.snapshot.specs.Read.{parseSnapshot}
 use Rattle.snapshot_tiers.specs.Payloads.{restAfter}
 use Rattle.snapshot_tiers.specs.Heads.{setAll}
 use Rattle.snapshot_lanes.specs.declared.sets.End.the-variants.{At}
@@ -18,19 +18,19 @@ use Rattle.snapshot_judge.specs.declared.decide.Verdict.{Verdict}
 use Rattle.snapshot_judge.specs.declared.decide.Verdict.the-variants.{Fits, Refused}
 use Rattle.snapshot_judge.specs.Judge.{Readable, smallOf, bigOf, far}
 
--- what there is to lay of a state that is read: the eight payloads from place 17 on end where the large counts start, 16 bytes each
+-- what there is to lay of a state that a snapshot says: the eight payloads from place 17 on end where the large counts start, 16 bytes each
 unfoldable pub planOf : List ℕ → State → Plan
 planOf s x =
     let end = placeOr 0 (setsEnd 8 17 s) in
     record { next = x .next; live = x .live; end = end; large = (length s - end) / 16; rows = length (x .counts) }
 
--- the refusal that reading gives, or what there is to lay; it doesn't depend on the starting threshold
+-- the refusal that is met, or what there is to lay; it doesn't depend on the starting threshold
 abbrev pub verdict : List ℕ → Outcome State → Verdict
 verdict s (refused q) = Refused q
 verdict s (taken x) = Fits (planOf s x)
 
 unfoldable pub verdictOf : ℕ → List ℕ → Verdict
-verdictOf room s = verdict s (readSnapshot 0 room s)
+verdictOf room s = verdict s (parseSnapshot 0 room s)
 
 -- both tiers of a snapshot as one, by index
 abbrev pub countsOf : List ℕ → ℕ → ℕ → List Entry

@@ -17,7 +17,7 @@ use Rattle.base.specs.declared.Refusal.{Refusal}
 use Rattle.base.specs.declared.Refusal.the-variants.{TableFull, Version, TornSnapshot, BadBitmap, BadLarge, TierClash}
 use Rattle.slices.specs.NumberLaws.{readLe-at, readLe-short}
 use Rattle.counters.specs.Counts.{Entry, State, freshMaintenance}
-use Rattle.snapshot.specs.Read.{readSets, readLarge, joined, readSnapshot}
+use Rattle.snapshot.specs.Read.{readSets, readLarge, joined, parseSnapshot}
 use Rattle.snapshot_judge.specs.declared.decide.Plan.{Plan}
 use Rattle.snapshot_judge.specs.declared.decide.Verdict.{Verdict}
 use Rattle.snapshot_judge.specs.declared.decide.Verdict.the-variants.{Fits, Refused}
@@ -43,7 +43,7 @@ liveOf s = unle (take 8 (drop 9 s))
 abbrev pub stateOf : ℕ → List ℕ → Plan → State
 stateOf base s p = record { next = p .next; live = p .live; counts = countsOf s (p .end) (p .large); maintenance = freshMaintenance base }
 
--- what a verdict says that reading gives
+-- what a verdict says that the snapshot is
 abbrev pub outcomeOf : ℕ → List ℕ → Verdict → Outcome State
 outcomeOf base s (Fits p) = taken (stateOf base s p)
 outcomeOf base s (Refused q) = refused q
@@ -54,7 +54,7 @@ PlanOf s room (Fits p) = Planned s room p
 PlanOf s room (Refused q) = Unit {0}
 
 pub record Decided (s : List ℕ) (room : ℕ) (r : Verdict) : Type 0 where
-  pub outcome : (base : ℕ) → outcomeOf base s r ≡ readSnapshot base room s
+  pub outcome : (base : ℕ) → outcomeOf base s r ≡ parseSnapshot base room s
   pub plan : PlanOf s room r
 
 pub reached-taken : (s : List ℕ) (end : ℕ) → Reached s end → isTaken (restAfter 8 (drop 17 s)) ≡ true
@@ -96,25 +96,25 @@ afterSets base room next live small rest = do
   joined base room next live small big
 
 module _ (base room : ℕ) where
-  pub read-none : (s : List ℕ) → length s ≡ 0 → refused TornSnapshot ≡ readSnapshot base room s
-  unfolding readSnapshot
+  pub read-none : (s : List ℕ) → length s ≡ 0 → refused TornSnapshot ≡ parseSnapshot base room s
+  unfolding parseSnapshot
   read-none [] e = refl
   read-none (v ∷ bs) e = absurd (omega arith)
 
-  pub read-version : (s : List ℕ) → 0 < length s → (getD s 0 0 ≡ 1 → ⊥) → refused Version ≡ readSnapshot base room s
-  unfolding readSnapshot
+  pub read-version : (s : List ℕ) → 0 < length s → (getD s 0 0 ≡ 1 → ⊥) → refused Version ≡ parseSnapshot base room s
+  unfolding parseSnapshot
   read-version [] h e = absurd (omega arith)
   read-version (v ∷ bs) h e = rw (ne-eqb v 1 e)
 
   read-one : (s : List ℕ) → 0 < length s → getD s 0 0 ≡ 1
-      → readSnapshot base room s
+      → parseSnapshot base room s
       ≡ (orRefuse TornSnapshot (readLe 8 (drop 1 s)) >>= (λ x. orRefuse TornSnapshot (readLe 8 (x .1)) >>= (λ y.
       readSets (from 0 8) [] (y .1) >>= (λ z. afterSets base room (x .0) (y .0) (z .0) (z .1)))))
-  unfolding readSnapshot afterSets
+  unfolding parseSnapshot afterSets
   read-one [] h e = absurd (omega arith)
   read-one (v ∷ bs) h e = rw (eq-eqb v 1 e)
 
-  pub read-short : (s : List ℕ) → 0 < length s → length s < 17 → getD s 0 0 ≡ 1 → refused TornSnapshot ≡ readSnapshot base room s
+  pub read-short : (s : List ℕ) → 0 < length s → length s < 17 → getD s 0 0 ≡ 1 → refused TornSnapshot ≡ parseSnapshot base room s
   read-short s h k e =
       elim (decLe 9 (length s)) [
         | yes g ↦ sym (read-one s h e ∙ rw (readLe-at 8 1 s (omega arith), readLe-short 8 9 s (omega arith) (omega arith)))
@@ -122,7 +122,7 @@ module _ (base room : ℕ) where
       ]
 
   module _ (s : List ℕ) (h : 17 ≤ length s) (e : getD s 0 0 ≡ 1) where
-    read-sets : readSnapshot base room s ≡ (restAfter 8 (drop 17 s) >>= (λ r. afterSets base room (nextOf s) (liveOf s) (smallOf s 17) r))
+    read-sets : parseSnapshot base room s ≡ (restAfter 8 (drop 17 s) >>= (λ r. afterSets base room (nextOf s) (liveOf s) (smallOf s 17) r))
     read-sets =
         read-one s (omega arith) e ∙ rw (readLe-at 8 1 s (omega arith), readLe-at 8 9 s (omega arith), sets-read 8 0 [] (drop 17 s)) (later (restAfter 8 (drop 17 s)))
       where
@@ -132,37 +132,37 @@ module _ (base room : ℕ) where
         later (refused q) = refl
         later (taken r) = refl
 
-    pub read-refused : (q : Refusal) → refused q ≡ restAfter 8 (drop 17 s) → refused q ≡ readSnapshot base room s
+    pub read-refused : (q : Refusal) → refused q ≡ restAfter 8 (drop 17 s) → refused q ≡ parseSnapshot base room s
     read-refused q f = sym (read-sets ∙ rw (← f))
 
   module _ (s : List ℕ) (end : ℕ) (p : Reached s end) where
-    reached : readSnapshot base room s ≡ afterSets base room (nextOf s) (liveOf s) (smallOf s 17) (drop end s)
+    reached : parseSnapshot base room s ≡ afterSets base room (nextOf s) (liveOf s) (smallOf s 17) (drop end s)
     reached = read-sets s (p .long) (p .version) ∙ rw (← p .rest)
 
-    pub read-ragged : ((length s - end) % 16 ≡ 0 → ⊥) → refused BadLarge ≡ readSnapshot base room s
+    pub read-ragged : ((length s - end) % 16 ≡ 0 → ⊥) → refused BadLarge ≡ parseSnapshot base room s
     unfolding afterSets
     read-ragged f = sym (reached ∙ rw (length-drop end s, ne-eqb ((length s - end) % 16) 0 f))
 
     module _ (f : (length s - end) % 16 ≡ 0) where
-      large-reached : readSnapshot base room s
+      large-reached : parseSnapshot base room s
           ≡ ((refuseIf (any low (rawOf ((length s - end) / 16) (drop end s))) BadLarge >> taken (bigOf s end ((length s - end) / 16)))
           >>= (λ big. joined base room (nextOf s) (liveOf s) (smallOf s 17) big))
       unfolding afterSets
       large-reached = reached ∙ rw (length-drop end s, eq-eqb ((length s - end) % 16) 0 f, large-read ((length s - end) / 16) [] (drop end s))
 
-      pub read-low : any low (rawOf ((length s - end) / 16) (drop end s)) ≡ true → refused BadLarge ≡ readSnapshot base room s
+      pub read-low : any low (rawOf ((length s - end) / 16) (drop end s)) ≡ true → refused BadLarge ≡ parseSnapshot base room s
       read-low g = sym (large-reached ∙ rw g)
 
       module _ (g : any low (rawOf ((length s - end) / 16) (drop end s)) ≡ false) where
-        tiers-reached : readSnapshot base room s ≡ joined base room (nextOf s) (liveOf s) (smallOf s 17) (bigOf s end ((length s - end) / 16))
+        tiers-reached : parseSnapshot base room s ≡ joined base room (nextOf s) (liveOf s) (smallOf s 17) (bigOf s end ((length s - end) / 16))
         tiers-reached = large-reached ∙ rw g
 
         module _ (j : Judged) (q : j ≡ judgedFrom 0 (nextOf s) (bigOf s end ((length s - end) / 16)) (smallOf s 17)) where
-          pub read-clash : j .clash ≡ true → refused TierClash ≡ readSnapshot base room s
+          pub read-clash : j .clash ≡ true → refused TierClash ≡ parseSnapshot base room s
           unfolding joined
           read-clash c = sym (tiers-reached ∙ rw (judged-clash (nextOf s) (bigOf s end ((length s - end) / 16)) (smallOf s 17) j q c))
 
-          pub read-full : j .clash ≡ false → room < j .rows → refused TableFull ≡ readSnapshot base room s
+          pub read-full : j .clash ≡ false → room < j .rows → refused TableFull ≡ parseSnapshot base room s
           unfolding joined
           read-full c h =
               let r = judged-rows (nextOf s) (bigOf s end ((length s - end) / 16)) (smallOf s 17) j q c in
@@ -170,7 +170,7 @@ module _ (base room : ℕ) where
               sym (tiers-reached ∙ rw (judged-clear (nextOf s) (bigOf s end ((length s - end) / 16)) (smallOf s 17) j q c, lt-ltb room (length (countsOf s end ((length s - end) / 16))) l))
 
           pub read-fits : j .clash ≡ false → j .rows ≤ room
-              → taken (record { next = nextOf s; live = liveOf s; counts = countsOf s end ((length s - end) / 16); maintenance = freshMaintenance base }) ≡ readSnapshot base room s
+              → taken (record { next = nextOf s; live = liveOf s; counts = countsOf s end ((length s - end) / 16); maintenance = freshMaintenance base }) ≡ parseSnapshot base room s
           unfolding joined
           read-fits c h =
               let r = judged-rows (nextOf s) (bigOf s end ((length s - end) / 16)) (smallOf s 17) j q c in
@@ -179,16 +179,16 @@ module _ (base room : ℕ) where
 
 -- ---- the verdict
 module _ (room : ℕ) (s : List ℕ) where
-  pub verdict-refused : (q : Refusal) → refused q ≡ readSnapshot 0 room s → Refused q ≡ verdictOf room s
+  pub verdict-refused : (q : Refusal) → refused q ≡ parseSnapshot 0 room s → Refused q ≡ verdictOf room s
   unfolding verdictOf
   verdict-refused q e = ap (verdict s) e
 
-  pub verdict-fits : (end : ℕ) → Reached s end → (x : State) → taken x ≡ readSnapshot 0 room s
+  pub verdict-fits : (end : ℕ) → Reached s end → (x : State) → taken x ≡ parseSnapshot 0 room s
       → Fits (record { next = x .next; live = x .live; end = end; large = (length s - end) / 16; rows = length (x .counts) }) ≡ verdictOf room s
   unfolding verdictOf planOf
   verdict-fits end p x e = rw (← e, p .ends)
 
-  refusal : (q : Refusal) → ((base : ℕ) → refused q ≡ readSnapshot base room s) → Decided s room (verdictOf room s)
+  refusal : (q : Refusal) → ((base : ℕ) → refused q ≡ parseSnapshot base room s) → Decided s room (verdictOf room s)
   refusal q o = subst (λ r. Decided s room r) (verdict-refused q (o 0)) (record { outcome = o; plan = tt })
 
   module _ (end : ℕ) (p : Reached s end) where
@@ -253,3 +253,7 @@ module _ (room : ℕ) (s : List ℕ) where
           | no v ↦ refusal Version (λ base. read-version base room s (omega arith) v)
         ]
       ]
+
+  -- what was decided, where it is one of the verdicts
+  pub decided-as : {v r : Verdict} → v ≡ verdictOf room s → v ≡ r → Decided s room r
+  decided-as e f = subst (λ x. Decided s room x) (sym e ∙ f) decided

@@ -57,7 +57,8 @@ fn decide_large(s: &[u8], end: usize, room: usize) -> Verdict
     Verdict::Fits(p)
 }
 
-// The refusals in their order: 8 where there is nothing, 7, then 8 to 10 as they are met, 11, 6.
+// The refusals in their order: 8 where there is nothing, 7, then 8 to 10 as they are met, 11, 6. 25 isn't among them: the plan has
+// the live total and the rows, and a caller compares them.
 pub fn decide(s: &[u8], room: usize) -> Verdict
     ensures { λ r. ⌜ r ≡ verdictOf room (now (s .entry)) ⌝ }
 {

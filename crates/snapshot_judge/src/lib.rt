@@ -1,3 +1,3 @@
-// Whether bytes are a counters' snapshot that a table has room for: all is decided here, before the first write.
+// Whether bytes are a counters' snapshot that a table has room for: all but 25 is decided here, before the first write.
 pub mod decide;
 pub mod judge;

@@ -35,7 +35,7 @@ use Rattle.snapshot.specs.Write.{snapshotBytes}
 use Rattle.snapshot.specs.Read.{readSnapshot}
 use Rattle.snapshot.specs.Calls.{lengthCall, serializeCall, deserializeCall}
 use Rattle.snapshot_laws.specs.RoundTrip.{WellFormed, renewed, read-snapshot}
-use Rattle.snapshot_laws.specs.RefusalLaws.{read-ordered, read-fits}
+use Rattle.snapshot_laws.specs.RefusalLaws.{parse-ordered, parse-fits, read-parsed, read-bounded}
 
 -- ---- a table of u64 holds u64
 module _ (p : ℕ → Bool) where
@@ -54,7 +54,14 @@ module _ (c : Counters) (t : List ℕ) (h : holds c t ≡ true) where
   -- the state that they hold is well-formed where their numbers are u64
   pub held-well-formed : c .«next_idx» .0 < 2 ^ 64 → c .«live_cells» < 2 ^ 64 → all (λ w. ltb w (2 ^ 64)) t ≡ true → WellFormed (stateOf c t)
   unfolding stateOf
-  held-well-formed n l a = record { next-fits = n; live-fits = l; sorted = held c t h .sorted; counts-fit = rows-pass (λ w. ltb w (2 ^ 64)) (c .stored) t refl a }
+  held-well-formed n l a =
+      record {
+        next-fits = n;
+        live-fits = l;
+        sorted = held c t h .sorted;
+        counts-fit = rows-pass (λ w. ltb w (2 ^ 64)) (c .stored) t refl a;
+        bounded = rw (length-rowsOf countRow (c .stored) t) (held c t h .bounded);
+      }
 
   -- ---- writing
   module _ (out : List ℕ) (long : length (snapshotBytes (stateOf c t)) ≤ length out) where
@@ -170,7 +177,7 @@ module _ (base : ℕ) (s : State) (w : WellFormed s) (t : List ℕ) (room : leng
 
   pub deserialize-holds : holds (deserializeCall base (snapshotBytes s) t .result .counters) (deserializeCall base (snapshotBytes s) t .table) ≡ true
   unfolding laid
-  deserialize-holds = rw deserialize-written (holds-laid (renewed base s) (length t) (omega arith) (w .sorted))
+  deserialize-holds = rw deserialize-written (holds-laid (renewed base s) (length t) (omega arith) (w .sorted) (w .bounded))
 
   pub deserialize-length : length (deserializeCall base (snapshotBytes s) t .table) ≡ length t
   unfolding laid
@@ -217,9 +224,10 @@ module _ (base : ℕ) (bs t : List ℕ) where
   pub deserialize-taken-holds : deserializeCall base bs t .result .answer ≡ Taken → holds (deserializeCall base bs t .result .counters) (deserializeCall base bs t .table) ≡ true
   unfolding laid
   deserialize-taken-holds e =
-      let w = deserialize-taken e in
-      let room = read-fits base (roomOf t) bs (w .0) (w .1) in
-      rw (w .2) (holds-laid (w .0) (length t) (omega arith) (read-ordered base (roomOf t) bs (w .0) (w .1)))
+      let (s, ok, same) = deserialize-taken e in
+      let parsed = read-parsed base (roomOf t) bs s ok in
+      let room = parse-fits base (roomOf t) bs s parsed in
+      rw same (holds-laid s (length t) (omega arith) (parse-ordered base (roomOf t) bs s parsed) (read-bounded base (roomOf t) bs s ok))
 
   -- the table keeps its length, whatever the answer
   pub deserialize-keeps-length : length (deserializeCall base bs t .table) ≡ length t
@@ -229,6 +237,6 @@ module _ (base : ℕ) (bs t : List ℕ) where
       go : (a : Answer) → deserializeCall base bs t .result .answer ≡ a → length (deserializeCall base bs t .table) ≡ length t
       go (Refused r) e = ap length (deserialize-refused r e .1)
       go Taken e =
-          let w = deserialize-taken e in
-          let room = read-fits base (roomOf t) bs (w .0) (w .1) in
-          rw (w .2) (length-tableOf (w .0) (length t) (omega arith))
+          let (s, ok, same) = deserialize-taken e in
+          let room = parse-fits base (roomOf t) bs s (read-parsed base (roomOf t) bs s ok) in
+          rw same (length-tableOf s (length t) (omega arith))

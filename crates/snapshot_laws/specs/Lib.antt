@@ -2,7 +2,7 @@
 -- `RoundTrip`: reading what was written, and what the bytes determine. `CallLaws`: the two calls.
 -- `WellFormedLaws`: every call on the counters leaves a state that can be written and read back.
 -- `Parts`: the parts of a snapshot by their places, and what can be wrong with them. `StoredLaws`: which indices have a stored count.
--- `RefusalLaws`: each refusal exactly under its condition. `ReadLaws`: the count that is read at each index.
+-- `RefusalLaws`: each refusal exactly under its condition. `ReadLaws`: the count that is read at each index. `LoadLaws`: loading, beside reading.
 pub mod SetLaws
 pub mod SmallLaws
 pub mod ByteLaws
@@ -13,3 +13,4 @@ pub mod Parts
 pub mod StoredLaws
 pub mod RefusalLaws
 pub mod ReadLaws
+pub mod LoadLaws

@@ -117,3 +117,7 @@ module _ (bs : List ℕ) where
   -- more counts than there is room for
   abbrev pub Exceeds : ℕ → Type 0
   Exceeds room = room < length countsOf
+
+  -- more counts than cells
+  abbrev pub ExceedsCells : Type 0
+  ExceedsCells = liveOf bs < length countsOf

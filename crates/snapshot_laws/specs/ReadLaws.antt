@@ -1,4 +1,4 @@
--- What reading gives: the count at each index, by the sets and the large tier as they stand in the bytes; and a state that can be written again.
+-- What a snapshot says: the count at each index, by the sets and the large tier as they stand in the bytes; and a state that can be written again.
 -- Assumes nothing.
 use mathlib.Core.Path.{_≡_, refl, ap, _∙_}
 use mathlib.Core.Bool.{Bool, true, false}
@@ -21,13 +21,13 @@ use Rattle.roaring.specs.Read.{parse64}
 use Rattle.roaring.specs.MemberLaws.{members-ascend}
 use Rattle.counters.specs.Counts.{Entry, State, storedAt, countAt}
 use Rattle.counters.specs.CountLaws.{storedAt-setCount}
-use Rattle.snapshot.specs.Read.{readSnapshot}
+use Rattle.snapshot.specs.Read.{parseSnapshot, readSnapshot}
 use Rattle.snapshot_laws.specs.SetLaws.{index, setRow, stored-before, stored-rows}
 use Rattle.snapshot_laws.specs.SmallLaws.{count-layBit}
-use Rattle.snapshot_laws.specs.RoundTrip.{WellFormed}
+use Rattle.snapshot_laws.specs.RoundTrip.{Spelled, WellFormed}
 use Rattle.snapshot_laws.specs.StoredLaws.{two, rows-two, rows-ascend}
 use Rattle.snapshot_laws.specs.Parts.{nextOf, liveOf, start, payload, setOf, smallOf, restOf, pairs, largeOf, countsOf}
-use Rattle.snapshot_laws.specs.RefusalLaws.{read-state, read-ordered, counts-ascend, large-taken}
+use Rattle.snapshot_laws.specs.RefusalLaws.{parse-state, parse-ordered, counts-ascend, large-parsed, read-parsed, read-bounded}
 
 -- the last count that pairs give an index, 0 where none does
 abbrev later : ℕ → Entry → ℕ → ℕ
@@ -137,36 +137,46 @@ stored-pass p lo (e ∷ es) z a h = rw first (stored-pass p (suc (e .idx)) es z 
         go true q t = rw (stored-before (suc (e .idx)) es j tail (omega (arith, eqb-true (e .idx) j q))) z
         go false q t = t
 
--- ---- a snapshot that is taken
-module _ (base room : ℕ) (bs : List ℕ) (s : State) (ok : readSnapshot base room bs ≡ taken s) where
+-- ---- a snapshot that parses
+module _ (base room : ℕ) (bs : List ℕ) (s : State) (ok : parseSnapshot base room bs ≡ taken s) where
   -- the count at an index: the last that the large tier gives it, else 1 more than what the sets that have it come to
-  pub read-count : (j : ℕ) → countAt j (s .counts) ≡ pick (ltb 0 (lastAt j (largeOf bs))) (lastAt j (largeOf bs)) (1 + codeOf bs j 8)
-  read-count j = rw (read-state base room bs s ok) (count-read bs (large-taken base room bs s ok) j)
+  pub parse-count : (j : ℕ) → countAt j (s .counts) ≡ pick (ltb 0 (lastAt j (largeOf bs))) (lastAt j (largeOf bs)) (1 + codeOf bs j 8)
+  parse-count j = rw (parse-state base room bs s ok) (count-read bs (large-parsed base room bs s ok) j)
 
   -- next index and live total as they stand
-  pub read-next : s .next ≡ nextOf bs
-  read-next = ap (λ (u : State). u .next) (read-state base room bs s ok)
+  pub parse-next : s .next ≡ nextOf bs
+  parse-next = ap (λ (u : State). u .next) (parse-state base room bs s ok)
 
-  pub read-live : s .live ≡ liveOf bs
-  read-live = ap (λ (u : State). u .live) (read-state base room bs s ok)
+  pub parse-live : s .live ≡ liveOf bs
+  parse-live = ap (λ (u : State). u .live) (parse-state base room bs s ok)
 
   -- the state can be written again
-  pub read-well-formed : all (λ b. ltb b 256) bs ≡ true → WellFormed s
+  pub parse-spelled : all (λ b. ltb b 256) bs ≡ true → Spelled s
   unfolding countAt lastAt
-  read-well-formed a =
+  parse-spelled a =
       record {
-        next-fits = rw read-next (unle-fits (drop 1 bs) (all-drop (λ b. ltb b 256) 1 bs a));
-        live-fits = rw read-live (unle-fits (drop 9 bs) (all-drop (λ b. ltb b 256) 9 bs a));
-        sorted = read-ordered base room bs s ok;
+        next-fits = rw parse-next (unle-fits (drop 1 bs) (all-drop (λ b. ltb b 256) 1 bs a));
+        live-fits = rw parse-live (unle-fits (drop 9 bs) (all-drop (λ b. ltb b 256) 9 bs a));
+        sorted = parse-ordered base room bs s ok;
         counts-fit = stored-pass (λ n. ltb n (2 ^ 64)) 0 (s .counts) refl ascend (λ j. lt-ltb (storedAt j (s .counts)) (2 ^ 64) (fits j));
       }
     where
       ascend : ascendingFrom 0 (map index (s .counts)) ≡ true
-      ascend = rw (read-state base room bs s ok) (counts-ascend bs)
+      ascend = rw (parse-state base room bs s ok) (counts-ascend bs)
 
       fits : (j : ℕ) → storedAt j (s .counts) < 2 ^ 64
-      fits j = go (lastAt j (largeOf bs)) (ltb 0 (lastAt j (largeOf bs))) (last-fits j (largeOf bs) 0 (omega arith) (pairs-fit (length (restOf bs) / 16) (restOf bs) (all-drop (λ b. ltb b 256) (start bs 8) bs a))) (read-count j)
+      fits j = go (lastAt j (largeOf bs)) (ltb 0 (lastAt j (largeOf bs))) (last-fits j (largeOf bs) 0 (omega arith) (pairs-fit (length (restOf bs) / 16) (restOf bs) (all-drop (λ b. ltb b 256) (start bs 8) bs a))) (parse-count j)
         where
           go : (n : ℕ) (b : Bool) → n < 2 ^ 64 → countAt j (s .counts) ≡ pick b n (1 + codeOf bs j 8) → storedAt j (s .counts) < 2 ^ 64
           go n true l e = omega arith
           go n false l e = omega (arith, code-below bs j 8)
+
+-- ---- a snapshot that is read
+module _ (base room : ℕ) (bs : List ℕ) (s : State) (ok : readSnapshot base room bs ≡ taken s) where
+  pub read-count : (j : ℕ) → countAt j (s .counts) ≡ pick (ltb 0 (lastAt j (largeOf bs))) (lastAt j (largeOf bs)) (1 + codeOf bs j 8)
+  read-count = parse-count base room bs s (read-parsed base room bs s ok)
+
+  pub read-well-formed : all (λ b. ltb b 256) bs ≡ true → WellFormed s
+  read-well-formed a =
+      let w = parse-spelled base room bs s (read-parsed base room bs s ok) a in
+      record { next-fits = w .next-fits; live-fits = w .live-fits; sorted = w .sorted; counts-fit = w .counts-fit; bounded = read-bounded base room bs s ok }

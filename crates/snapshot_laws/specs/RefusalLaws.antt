@@ -1,4 +1,4 @@
--- Each refusal of reading a snapshot, exactly under document 01's condition.
+-- Each refusal of parsing and of reading a snapshot, exactly under document 01's condition; neither is refused with another number.
 -- Assumes nothing.
 use mathlib.Core.Path.{_≡_, refl, sym, ap, _∙_}
 use mathlib.Core.Logic.{_↔_, _⊎_, inl, inr}
@@ -20,15 +20,17 @@ use Rattle.base.specs.Bytes.{unle}
 use Rattle.base.specs.Answers.{Outcome, refused, taken, _>>=_, _>>_, refuseIf, orRefuse, numberOf, either}
 use Rattle.base.specs.ListLaws.{ltb-lt, or-false, fails-not, or-either, any-some}
 use Rattle.base.specs.OutcomeLaws.{other-number, refused-taken, taken-refused, taken-same, ends-here, ends-later, never-ends, flat-three, flat-four, flat-five, Refuses, refuses-none, refuses-step}
+use Rattle.base.specs.AnswerLaws.{exactly}
 use Rattle.base.specs.declared.Refusal.{Refusal}
-use Rattle.base.specs.declared.Refusal.the-variants.{TableFull, Version, TornSnapshot, BadBitmap, BadLarge, TierClash}
+use Rattle.base.specs.declared.Refusal.the-variants.{TableFull, Version, TornSnapshot, BadBitmap, BadLarge, TierClash, FewCells}
 use Rattle.slices.specs.NumberLaws.{cut-at, cut-short, readLe-at, readLe-short}
 use Rattle.roaring.specs.Read.{parse64}
 use Rattle.counters.specs.Counts.{Entry, State, storedAt, freshMaintenance}
-use Rattle.snapshot.specs.Read.{layBit, readSets, readLarge, joined, readSnapshot}
+use Rattle.counters.specs.BoundLaws.{bound-other, bound-few, bound-taken, bound-numbers}
+use Rattle.snapshot.specs.Read.{layBit, readSets, readLarge, joined, parseSnapshot, readSnapshot}
 use Rattle.snapshot_laws.specs.SetLaws.{index, setRow}
 use Rattle.snapshot_laws.specs.StoredLaws.{two, stored-some, any-stored, rows-stored, layBit-stored, rows-two, layBit-two, rows-ascend, layBit-ascends}
-use Rattle.snapshot_laws.specs.Parts.{nextOf, liveOf, start, payload, setOf, smallOf, restOf, pairs, largeOf, countsOf, Good, GoodBefore, Whole, Torn, BadPayload, BadRest, InSmall, InLarge, InBoth, NotBelow, Clash, Exceeds}
+use Rattle.snapshot_laws.specs.Parts.{nextOf, liveOf, start, payload, setOf, smallOf, restOf, pairs, largeOf, countsOf, Good, GoodBefore, Whole, Torn, BadPayload, BadRest, InSmall, InLarge, InBoth, NotBelow, Clash, Exceeds, ExceedsCells}
 
 -- ---- one set after the other
 module _ (bs : List ℕ) where
@@ -132,18 +134,18 @@ module _ (base room : ℕ) where
       go false false big f = refl
 
   -- ---- the version byte, next and live
-  empty-read : (bs : List ℕ) → length bs ≡ 0 → readSnapshot base room bs ≡ refused TornSnapshot
-  unfolding readSnapshot
+  empty-read : (bs : List ℕ) → length bs ≡ 0 → parseSnapshot base room bs ≡ refused TornSnapshot
+  unfolding parseSnapshot
   empty-read [] e = refl
   empty-read (v ∷ r) e = absurd (omega arith)
 
-  version-read : (bs : List ℕ) → 0 < length bs → ¬ (getD bs 0 0 ≡ 1) → readSnapshot base room bs ≡ refused Version
-  unfolding readSnapshot
+  version-read : (bs : List ℕ) → 0 < length bs → ¬ (getD bs 0 0 ≡ 1) → parseSnapshot base room bs ≡ refused Version
+  unfolding parseSnapshot
   version-read [] h e = absurd (omega arith)
   version-read (v ∷ r) h e = rw (ne-eqb v 1 e)
 
-  short-read : (bs : List ℕ) → getD bs 0 0 ≡ 1 → length bs < 17 → readSnapshot base room bs ≡ refused TornSnapshot
-  unfolding readSnapshot
+  short-read : (bs : List ℕ) → getD bs 0 0 ≡ 1 → length bs < 17 → parseSnapshot base room bs ≡ refused TornSnapshot
+  unfolding parseSnapshot
   short-read [] e h = absurd (omega arith)
   short-read (v ∷ r) e h =
       elim (decLt (length (v ∷ r)) 9) [
@@ -151,13 +153,13 @@ module _ (base room : ℕ) where
         | no g ↦ rw (eq-eqb v 1 e, readLe-at 8 1 (v ∷ r) (omega arith), readLe-short 8 9 (v ∷ r) (omega arith) h)
       ]
 
-  headed : (bs : List ℕ) → getD bs 0 0 ≡ 1 → 17 ≤ length bs → readSnapshot base room bs ≡ (readSets (from 0 8) [] (drop 17 bs) >>= after bs)
-  unfolding readSnapshot
+  headed : (bs : List ℕ) → getD bs 0 0 ≡ 1 → 17 ≤ length bs → parseSnapshot base room bs ≡ (readSets (from 0 8) [] (drop 17 bs) >>= after bs)
+  unfolding parseSnapshot
   headed [] e h = absurd (omega arith)
   headed (v ∷ r) e h = rw (eq-eqb v 1 e, readLe-at 8 1 (v ∷ r) (omega arith), readLe-at 8 9 (v ∷ r) h)
 
-  -- ---- the ways that reading goes
-  torn-read : (bs : List ℕ) → getD bs 0 0 ≡ 1 → Torn bs → readSnapshot base room bs ≡ refused TornSnapshot
+  -- ---- the ways that parsing goes
+  torn-read : (bs : List ℕ) → getD bs 0 0 ≡ 1 → Torn bs → parseSnapshot base room bs ≡ refused TornSnapshot
   torn-read bs e t =
       elim (decLt (length bs) 17) [
         | yes g ↦ short-read bs e g
@@ -169,7 +171,7 @@ module _ (base room : ℕ) where
             ∙ rw (q, pass bs k (suc n) (t .before), set-torn bs k n (smallOf bs k) (reaches bs k (omega arith) (t .before)) (t .ends-early))
       ]
 
-  bad-read : (bs : List ℕ) → getD bs 0 0 ≡ 1 → BadPayload bs → readSnapshot base room bs ≡ refused BadBitmap
+  bad-read : (bs : List ℕ) → getD bs 0 0 ≡ 1 → BadPayload bs → parseSnapshot base room bs ≡ refused BadBitmap
   bad-read bs e t =
       let k : ℕ = t .set in
       let n : ℕ = 7 - k in
@@ -177,7 +179,7 @@ module _ (base room : ℕ) where
       headed bs e (omega (arith, starts bs (suc k), t .ends))
       ∙ rw (q, pass bs k (suc n) (t .before), set-bad bs k n (smallOf bs k) (t .ends) (t .breaks))
 
-  good-read : (bs : List ℕ) → getD bs 0 0 ≡ 1 → GoodBefore bs 8 → readSnapshot base room bs ≡ tested bs
+  good-read : (bs : List ℕ) → getD bs 0 0 ≡ 1 → GoodBefore bs 8 → parseSnapshot base room bs ≡ tested bs
   unfolding readSets from
   good-read bs e g =
       headed bs e (omega (arith, starts bs 8, g 7 (omega arith) .ends)) ∙ ap (λ (o : Outcome (List Entry × List ℕ)). o >>= after bs) (pass bs 8 0 g) ∙ after-tested bs
@@ -374,8 +376,8 @@ module _ (base room : ℕ) (bs : List ℕ) where
       (refuses-step TierClash (6 ∷ []) (itself clashes) (refuses-step TableFull [] exceeds-test (refuses-none [] (stateRead base bs))))
 
   -- ---- each refusal
-  -- what reading comes to, by the way that it goes
-  by-way : {P : Type 0} (o : Outcome State) → readSnapshot base room bs ≡ o → (length bs ≡ 0 → refused TornSnapshot ≡ o → P)
+  -- what parsing comes to, by the way that it goes
+  by-way : {P : Type 0} (o : Outcome State) → parseSnapshot base room bs ≡ o → (length bs ≡ 0 → refused TornSnapshot ≡ o → P)
       → (0 < length bs → ¬ (getD bs 0 0 ≡ 1) → refused Version ≡ o → P) → (getD bs 0 0 ≡ 1 → Torn bs → refused TornSnapshot ≡ o → P)
       → (getD bs 0 0 ≡ 1 → BadPayload bs → refused BadBitmap ≡ o → P) → (Whole bs → tested base room bs ≡ o → P) → P
   by-way {P} o e f-empty f-version f-torn f-bad f-good = go (way bs)
@@ -388,27 +390,27 @@ module _ (base room : ℕ) (bs : List ℕ) where
       go (good w) = f-good w (sym (good-read base room bs (w .version) (w .sets)) ∙ e)
 
   -- 7, version: the first byte isn't 1
-  pub read-version : (readSnapshot base room bs ≡ refused Version) ↔ ((0 < length bs) × (¬ (getD bs 0 0 ≡ 1)))
+  pub parse-version : (parseSnapshot base room bs ≡ refused Version) ↔ ((0 < length bs) × (¬ (getD bs 0 0 ≡ 1)))
   unfolding any
-  read-version = (
+  parse-version = (
     (λ e. by-way (refused Version) e (λ h q. absurd (other-number (omega arith) q)) (λ h n q. (h, n)) (λ v t q. absurd (other-number (omega arith) q))
         (λ v t q. absurd (other-number (omega arith) q)) (λ w q. absurd (false≢true (tested-numbers Version q)))),
     λ p. version-read base room bs (p .0) (p .1),
   )
 
   -- 8, torn snapshot: empty, or it ends before the eighth payload does, and those before the one that is cut are good
-  pub read-torn : (readSnapshot base room bs ≡ refused TornSnapshot) ↔ ((length bs ≡ 0) ⊎ ((getD bs 0 0 ≡ 1) × Torn bs))
+  pub parse-torn : (parseSnapshot base room bs ≡ refused TornSnapshot) ↔ ((length bs ≡ 0) ⊎ ((getD bs 0 0 ≡ 1) × Torn bs))
   unfolding any
-  read-torn = (
+  parse-torn = (
     (λ e. by-way (refused TornSnapshot) e (λ h q. inl h) (λ h n q. absurd (other-number (omega arith) q)) (λ v t q. inr (v, t))
         (λ v t q. absurd (other-number (omega arith) q)) (λ w q. absurd (false≢true (tested-numbers TornSnapshot q)))),
     λ s. elim s [ inl h ↦ empty-read base room bs h | inr p ↦ torn-read base room bs (p .0) (p .1) ],
   )
 
   -- 9, bad bitmap: a payload breaks the rules, and those before it are good
-  pub read-bad-bitmap : (readSnapshot base room bs ≡ refused BadBitmap) ↔ ((getD bs 0 0 ≡ 1) × BadPayload bs)
+  pub parse-bad-bitmap : (parseSnapshot base room bs ≡ refused BadBitmap) ↔ ((getD bs 0 0 ≡ 1) × BadPayload bs)
   unfolding any
-  read-bad-bitmap = (
+  parse-bad-bitmap = (
     (λ e. by-way (refused BadBitmap) e (λ h q. absurd (other-number (omega arith) q)) (λ h n q. absurd (other-number (omega arith) q))
         (λ v t q. absurd (other-number (omega arith) q)) (λ v t q. (v, t)) (λ w q. absurd (false≢true (tested-numbers BadBitmap q)))),
     λ p. bad-read base room bs (p .0) (p .1),
@@ -416,32 +418,32 @@ module _ (base room : ℕ) (bs : List ℕ) where
 
   -- any other answer comes where the version is 1 and all payloads are good
   behind : {Q : Type 0} (o : Outcome State) → (refused TornSnapshot ≡ o → ⊥) → (refused Version ≡ o → ⊥) → (refused BadBitmap ≡ o → ⊥) → (tested base room bs ≡ o) ↔ Q
-      → (readSnapshot base room bs ≡ o) ↔ (Whole bs × Q)
+      → (parseSnapshot base room bs ≡ o) ↔ (Whole bs × Q)
   behind o f g h r = (
     (λ e. by-way o e (λ l q. absurd (f q)) (λ l n q. absurd (g q)) (λ v t q. absurd (f q)) (λ v t q. absurd (h q)) (λ w q. (w, r .0 q))),
     λ p. good-read base room bs (p .0 .version) (p .0 .sets) ∙ r .1 (p .1),
   )
 
   -- 10, bad large: the rest isn't a multiple of 16, or a count is below 257
-  pub read-bad-large : (readSnapshot base room bs ≡ refused BadLarge) ↔ (Whole bs × BadRest bs)
-  read-bad-large = behind (refused BadLarge) (other-number (omega arith)) (other-number (omega arith)) (other-number (omega arith)) tested-bad
+  pub parse-bad-large : (parseSnapshot base room bs ≡ refused BadLarge) ↔ (Whole bs × BadRest bs)
+  parse-bad-large = behind (refused BadLarge) (other-number (omega arith)) (other-number (omega arith)) (other-number (omega arith)) tested-bad
 
   -- 11, tier clash: an index is in both tiers, or not below the next index
-  pub read-tier-clash : (readSnapshot base room bs ≡ refused TierClash) ↔ (Whole bs × (¬ BadRest bs) × Clash bs)
-  read-tier-clash = flat-three (behind (refused TierClash) (other-number (omega arith)) (other-number (omega arith)) (other-number (omega arith)) tested-clash)
+  pub parse-tier-clash : (parseSnapshot base room bs ≡ refused TierClash) ↔ (Whole bs × (¬ BadRest bs) × Clash bs)
+  parse-tier-clash = flat-three (behind (refused TierClash) (other-number (omega arith)) (other-number (omega arith)) (other-number (omega arith)) tested-clash)
 
   -- 6, table full: the counts exceed the table
-  pub read-table-full : (readSnapshot base room bs ≡ refused TableFull) ↔ (Whole bs × (¬ BadRest bs) × (¬ Clash bs) × Exceeds bs room)
-  read-table-full = flat-four (behind (refused TableFull) (other-number (omega arith)) (other-number (omega arith)) (other-number (omega arith)) tested-full)
+  pub parse-table-full : (parseSnapshot base room bs ≡ refused TableFull) ↔ (Whole bs × (¬ BadRest bs) × (¬ Clash bs) × Exceeds bs room)
+  parse-table-full = flat-four (behind (refused TableFull) (other-number (omega arith)) (other-number (omega arith)) (other-number (omega arith)) tested-full)
 
   -- taken: none of the six
-  pub read-taken : (s : State) → (readSnapshot base room bs ≡ taken s) ↔ (Whole bs × (¬ BadRest bs) × (¬ Clash bs) × (¬ Exceeds bs room) × (s ≡ stateRead base bs))
-  read-taken s = flat-five (behind (taken s) refused-taken refused-taken refused-taken (tested-taken s))
+  pub parse-taken : (s : State) → (parseSnapshot base room bs ≡ taken s) ↔ (Whole bs × (¬ BadRest bs) × (¬ Clash bs) × (¬ Exceeds bs room) × (s ≡ stateRead base bs))
+  parse-taken s = flat-five (behind (taken s) refused-taken refused-taken refused-taken (tested-taken s))
 
   -- it is refused with no other number
-  pub read-numbers : Refuses (8 ∷ 7 ∷ 9 ∷ 10 ∷ 11 ∷ 6 ∷ []) (readSnapshot base room bs)
+  pub parse-numbers : Refuses (8 ∷ 7 ∷ 9 ∷ 10 ∷ 11 ∷ 6 ∷ []) (parseSnapshot base room bs)
   unfolding any
-  read-numbers q e =
+  parse-numbers q e =
       by-way (refused q) e (λ h p. same TornSnapshot refl p) (λ h n p. same Version refl p) (λ v t p. same TornSnapshot refl p) (λ v t p. same BadBitmap refl p)
       (λ w p. rw (tested-numbers q p) (or-three (eqb (numberOf q) 8) (eqb (numberOf q) 7) (eqb (numberOf q) 9)))
     where
@@ -453,6 +455,64 @@ module _ (base room : ℕ) (bs : List ℕ) where
 
       or-three : (a b c : Bool) → (a || (b || (c || true))) ≡ true
       or-three a b c = rw (or-true c, or-true b, or-true a)
+
+-- ---- reading: what the snapshot says, and 25 last
+module _ (base room : ℕ) (bs : List ℕ) where
+  -- a refusal with another number than 25 is parsing's
+  before : {q : Refusal} → (numberOf FewCells ≡ numberOf q → ⊥) → (readSnapshot base room bs ≡ refused q) ↔ (parseSnapshot base room bs ≡ refused q)
+  unfolding readSnapshot
+  before other = bound-other (parseSnapshot base room bs) other
+
+  -- 7, version
+  pub read-version : (readSnapshot base room bs ≡ refused Version) ↔ ((0 < length bs) × (¬ (getD bs 0 0 ≡ 1)))
+  read-version = exactly (before (omega arith)) (parse-version base room bs)
+
+  -- 8, torn snapshot
+  pub read-torn : (readSnapshot base room bs ≡ refused TornSnapshot) ↔ ((length bs ≡ 0) ⊎ ((getD bs 0 0 ≡ 1) × Torn bs))
+  read-torn = exactly (before (omega arith)) (parse-torn base room bs)
+
+  -- 9, bad bitmap
+  pub read-bad-bitmap : (readSnapshot base room bs ≡ refused BadBitmap) ↔ ((getD bs 0 0 ≡ 1) × BadPayload bs)
+  read-bad-bitmap = exactly (before (omega arith)) (parse-bad-bitmap base room bs)
+
+  -- 10, bad large
+  pub read-bad-large : (readSnapshot base room bs ≡ refused BadLarge) ↔ (Whole bs × BadRest bs)
+  read-bad-large = exactly (before (omega arith)) (parse-bad-large base room bs)
+
+  -- 11, tier clash
+  pub read-tier-clash : (readSnapshot base room bs ≡ refused TierClash) ↔ (Whole bs × (¬ BadRest bs) × Clash bs)
+  read-tier-clash = exactly (before (omega arith)) (parse-tier-clash base room bs)
+
+  -- 6, table full
+  pub read-table-full : (readSnapshot base room bs ≡ refused TableFull) ↔ (Whole bs × (¬ BadRest bs) × (¬ Clash bs) × Exceeds bs room)
+  read-table-full = exactly (before (omega arith)) (parse-table-full base room bs)
+
+  -- 25, few cells: none of the six, and the counts exceed the live total
+  pub read-few : (readSnapshot base room bs ≡ refused FewCells) ↔ (Whole bs × (¬ BadRest bs) × (¬ Clash bs) × (¬ Exceeds bs room) × ExceedsCells bs)
+  unfolding readSnapshot any
+  read-few =
+      exactly (bound-few (parseSnapshot base room bs) (λ e. false≢true (parse-numbers base room bs FewCells e))) (
+        (λ (s, e, few). let (w, r, c, x, same) = parse-taken base room bs s .0 e in (w, r, c, x, rw same at few)),
+        λ (w, r, c, x, few). (stateRead base bs, parse-taken base room bs (stateRead base bs) .1 (w, r, c, x, refl), few),
+      )
+
+  -- taken: none of the seven
+  pub read-taken : (s : State) → (readSnapshot base room bs ≡ taken s)
+      ↔ (Whole bs × (¬ BadRest bs) × (¬ Clash bs) × (¬ Exceeds bs room) × (¬ ExceedsCells bs) × (s ≡ stateRead base bs))
+  unfolding readSnapshot
+  read-taken s =
+      exactly (bound-taken (parseSnapshot base room bs) s) (
+        (λ (e, many). let (w, r, c, x, same) = parse-taken base room bs s .0 e in (w, r, c, x, enough same many, same)),
+        λ (w, r, c, x, many, same). (parse-taken base room bs s .1 (w, r, c, x, same), rw same (omega (arith, many))),
+      )
+    where
+      enough : s ≡ stateRead base bs → length (s .counts) ≤ s .live → ¬ ExceedsCells bs
+      enough same many few = let h : length (countsOf bs) ≤ liveOf bs = rw same at many in omega arith
+
+  -- it is refused with no other number
+  pub read-numbers : Refuses (8 ∷ 7 ∷ 9 ∷ 10 ∷ 11 ∷ 6 ∷ 25 ∷ []) (readSnapshot base room bs)
+  unfolding readSnapshot
+  read-numbers = bound-numbers (parseSnapshot base room bs) (8 ∷ 7 ∷ 9 ∷ 10 ∷ 11 ∷ 6 ∷ []) (parse-numbers base room bs)
 
 -- ---- what is read
 module _ (bs : List ℕ) where
@@ -473,24 +533,34 @@ below-all next (x ∷ xs) e t =
     let f = or-false (leb next (x .idx)) (any (λ y. leb next (y .idx)) xs) e in
     rw (lt-ltb (x .idx) next (leb-false next (x .idx) (f .0)), and-left (two x) (all two xs) t) (below-all next xs (f .1) (and-right (two x) (all two xs) t))
 
-module _ (base room : ℕ) (bs : List ℕ) (s : State) (ok : readSnapshot base room bs ≡ taken s) where
-  pub read-state : s ≡ stateRead base bs
-  read-state = read-taken base room bs s .0 ok .4
+module _ (base room : ℕ) (bs : List ℕ) (s : State) (ok : parseSnapshot base room bs ≡ taken s) where
+  pub parse-state : s ≡ stateRead base bs
+  parse-state = parse-taken base room bs s .0 ok .4
 
   -- the counts are ascending, at least 2, below the next index
-  pub read-ordered : ordered (s .next) (s .counts) ≡ true
+  pub parse-ordered : ordered (s .next) (s .counts) ≡ true
   unfolding ordered
-  read-ordered =
-      let r = read-taken base room bs s .0 ok in
+  parse-ordered =
+      let r = parse-taken base room bs s .0 ok in
       let apart = or-false (inBoth bs) (notBelow bs) (fails-not (clashes base room bs) (clashes-test base room bs (r .1)) .1 (r .2)) in
-      rw read-state
+      rw parse-state
       (and-both (ascendingFrom 0 (map index (countsOf bs))) (all (sound (nextOf bs)) (countsOf bs)) (counts-ascend bs)
       (below-all (nextOf bs) (countsOf bs) (apart .1) (counts-two bs (no-low base room bs (r .1)))))
 
   -- and there is room for them
-  pub read-fits : length (s .counts) ≤ room
-  read-fits = rw read-state (omega (arith, read-taken base room bs s .0 ok .3))
+  pub parse-fits : length (s .counts) ≤ room
+  parse-fits = rw parse-state (omega (arith, parse-taken base room bs s .0 ok .3))
 
   -- every count of the large tier is at least 2
-  pub large-taken : all two (largeOf bs) ≡ true
-  large-taken = no-low base room bs (read-taken base room bs s .0 ok .1)
+  pub large-parsed : all two (largeOf bs) ≡ true
+  large-parsed = no-low base room bs (parse-taken base room bs s .0 ok .1)
+
+-- a snapshot that is read is one that parses, with no more counts than cells
+module _ (base room : ℕ) (bs : List ℕ) (s : State) (ok : readSnapshot base room bs ≡ taken s) where
+  pub read-parsed : parseSnapshot base room bs ≡ taken s
+  unfolding readSnapshot
+  read-parsed = bound-taken (parseSnapshot base room bs) s .0 ok .0
+
+  pub read-bounded : length (s .counts) ≤ s .live
+  unfolding readSnapshot
+  read-bounded = bound-taken (parseSnapshot base room bs) s .0 ok .1

@@ -19,18 +19,30 @@ use Rattle.base.specs.OutcomeLaws.{taken-same}
 use Rattle.counters.specs.Counts.{Entry, State, storedAt, countAt, smallCode, large, freshMaintenance}
 use Rattle.counters.specs.Layout.{sound, ordered}
 use Rattle.counters.specs.CountLaws.{stored-two, same-counts}
+use Rattle.counters.specs.BoundLaws.{bound-taken}
 use Rattle.snapshot.specs.Write.{setBytes, largeBytes, snapshotBytes}
-use Rattle.snapshot.specs.Read.{joined, readSnapshot}
+use Rattle.snapshot.specs.Read.{joined, parseSnapshot, readSnapshot}
 use Rattle.snapshot_laws.specs.SetLaws.{index, setRow, ascends, sounds, all-below, all-two, ordered-keep, stored-before, stored-keep, stored-rows, ordered-rows, rows-again}
 use Rattle.snapshot_laws.specs.SmallLaws.{code-small, code-low, code-large, laySets, small, ordered-small, count-small}
 use Rattle.snapshot_laws.specs.ByteLaws.{read-sets, isLarge, length-large, read-large}
 
 -- the numbers are u64, and the counts in order
+pub record Spelled (s : State) : Type 0 where
+  pub next-fits : s .next < 2 ^ 64
+  pub live-fits : s .live < 2 ^ 64
+  pub sorted : ordered (s .next) (s .counts) ≡ true
+  pub counts-fit : all (λ e. ltb (e .count) (2 ^ 64)) (s .counts) ≡ true
+
+-- and there are no more counts than cells
 pub record WellFormed (s : State) : Type 0 where
   pub next-fits : s .next < 2 ^ 64
   pub live-fits : s .live < 2 ^ 64
   pub sorted : ordered (s .next) (s .counts) ≡ true
   pub counts-fit : all (λ e. ltb (e .count) (2 ^ 64)) (s .counts) ≡ true
+  pub bounded : length (s .counts) ≤ s .live
+
+pub well-spelled : (s : State) → WellFormed s → Spelled s
+well-spelled s w = record { next-fits = w .next-fits; live-fits = w .live-fits; sorted = w .sorted; counts-fit = w .counts-fit }
 
 -- the state with the maintenance of a new box
 abbrev pub renewed : ℕ → State → State
@@ -140,15 +152,15 @@ module _ (next : ℕ) (es : List Entry) (o : ordered next es ≡ true) where
       (all-keep (λ e. ltb (e .count) (2 ^ 64)) (λ e. leb 257 (e .count)) es c))
 
 -- ---- the snapshot
-small-read : (base room : ℕ) (s : State) → WellFormed s → length (s .counts) ≤ room
+small-read : (base room : ℕ) (s : State) → Spelled s → length (s .counts) ≤ room
     → joined base room (s .next) (s .live) (laySets (s .counts) 8 0 []) (large (s .counts)) ≡ taken (renewed base s)
 unfolding small
 small-read base room s w r = joined-tiers (s .next) (s .counts) (w .sorted) base room (s .live) r
 
--- reading what was written gives the state back, with the maintenance of a new box
-pub read-snapshot : (base room : ℕ) (s : State) → WellFormed s → length (s .counts) ≤ room → readSnapshot base room (snapshotBytes s) ≡ taken (renewed base s)
-unfolding readSnapshot snapshotBytes
-read-snapshot base room s w r =
+-- a snapshot says the state that it was written from, whatever the live total, with the maintenance of a new box
+pub parse-snapshot : (base room : ℕ) (s : State) → Spelled s → length (s .counts) ≤ room → parseSnapshot base room (snapshotBytes s) ≡ taken (renewed base s)
+unfolding parseSnapshot snapshotBytes
+parse-snapshot base room s w r =
     let es : List Entry = s .counts in
     let sets : List ℕ = flat (setBytes es) (from 0 8) in
     let rest : List ℕ = flat largeBytes (large es) in
@@ -167,6 +179,12 @@ read-snapshot base room s w r =
       read-large (large es) [] (large-fits (s .next) es (w .sorted) (w .next-fits) (w .counts-fit)),
       rows-again (s .next) (large es) (ordered-large (s .next) es (w .sorted)),
     ) (small-read base room s w r)
+
+-- so reading what was written gives it back
+pub read-snapshot : (base room : ℕ) (s : State) → WellFormed s → length (s .counts) ≤ room → readSnapshot base room (snapshotBytes s) ≡ taken (renewed base s)
+unfolding readSnapshot
+read-snapshot base room s w r =
+    bound-taken (parseSnapshot base room (snapshotBytes s)) (renewed base s) .1 (parse-snapshot base room s (well-spelled s w) r, w .bounded)
 
 -- the bytes are those of the next index, the live total and the counts alone
 pub snapshot-same : (s t : State) → s .next ≡ t .next → s .live ≡ t .live → s .counts ≡ t .counts → snapshotBytes s ≡ snapshotBytes t

@@ -27,7 +27,7 @@ use Rattle.counters.specs.Batch.{changes, kept, countsAfter, stateAfter, applyB
 use Rattle.counters.specs.Maintenance.{Settings}
 use Rattle.counters.specs.Layout.{countRow, transitionRow, roomOf, withNext, stateOf, holds, batchOf}
 use Rattle.counters.specs.Calls.{newCall, allocCall, batchCall, shrinkCall}
-use Rattle.counters.specs.RefusalLaws.{allocate-spent, taken-state, taken-next, taken-ordered, taken-live}
+use Rattle.counters.specs.RefusalLaws.{allocate-spent, taken-state, taken-next, taken-ordered, taken-live, bounded-after}
 use Rattle.counters.specs.CallLaws.{new-state, alloc-answer, alloc-taken, alloc-refused, batch-refused, batch-accepted, shrink-state, shrink-broken, shrink-refused}
 use Rattle.counters.specs.CountLaws.{ordered-more}
 use Rattle.snapshot_laws.specs.SetLaws.{ordered-none}
@@ -66,6 +66,7 @@ applied-well-formed room s ts s′ ok w a =
       live-fits = omega (arith, taken-live room s ts s′ ok .1);
       sorted = taken-ordered room s ts s′ ok (w .sorted);
       counts-fit = rw left (counts-fit-after (kept ts) (s .counts) (all-keep (λ t. ltb (t .«new_raw») (2 ^ 64)) changes ts a) (w .counts-fit));
+      bounded = bounded-after room s ts s′ ok;
     }
 
 -- the transitions that words of 8 bytes spell
@@ -89,7 +90,7 @@ batch-fits ws ts a e = go (eqb (length ws % 3) 0) e
 pub new-well-formed : (base : ℕ) (next : NextIdx) (t : List ℕ) → next .0 < 2 ^ 64 → WellFormed (stateOf (newCall base next t .result .counters) (newCall base next t .table))
 unfolding fresh all
 new-well-formed base next t h =
-    rw (new-state base next t) (record { next-fits = h; live-fits = omega arith; sorted = ordered-none (next .0); counts-fit = refl })
+    rw (new-state base next t) (record { next-fits = h; live-fits = omega arith; sorted = ordered-none (next .0); counts-fit = refl; bounded = omega arith })
 
 module _ (c : Counters) (t : List ℕ) (w : WellFormed (stateOf c t)) where
   pub alloc-well-formed : WellFormed (stateOf (allocCall c .counters) t)
@@ -105,6 +106,7 @@ module _ (c : Counters) (t : List ℕ) (w : WellFormed (stateOf c t)) where
             live-fits = w .live-fits;
             sorted = ordered-more (c .«next_idx» .0) (rowsOf countRow (c .stored) t) (w .sorted) (c .«next_idx» .0 + 1) (omega arith);
             counts-fit = w .counts-fit;
+            bounded = w .bounded;
           })
         where
           unspent : allocCall c .answer ≡ Taken → ¬ (c .«next_idx» .0 ≡ max64)
@@ -124,5 +126,5 @@ module _ (c : Counters) (t : List ℕ) (w : WellFormed (stateOf c t)) where
   shrink-well-formed g saved = go (holds c t) refl
     where
       go : (b : Bool) → holds c t ≡ b → WellFormed (stateOf (shrinkCall g c t saved .counters) t)
-      go true h = rw (shrink-state g c t saved h) (record { next-fits = w .next-fits; live-fits = w .live-fits; sorted = w .sorted; counts-fit = w .counts-fit })
+      go true h = rw (shrink-state g c t saved h) (record { next-fits = w .next-fits; live-fits = w .live-fits; sorted = w .sorted; counts-fit = w .counts-fit; bounded = w .bounded })
       go false h = rw (shrink-refused g c t saved Broken (shrink-broken g c t saved .1 h)) w

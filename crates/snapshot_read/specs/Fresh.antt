@@ -1,8 +1,13 @@
--- The record of counters that are read.
+-- The counters that are read, and their record.
 -- Assumes nothing.
 use Prim.Native.Nat.{ℕ}
+use mathlib.Core.List.{List}
 use Rattle.base.specs.Logic.{zeros}
 use Rattle.counters.specs.declared.Counters.{Counters}
+use Rattle.counters.specs.Counts.{State, freshMaintenance}
+use Rattle.counters.specs.Maintenance.{standard}
+use Rattle.snapshot_judge.specs.declared.decide.Plan.{Plan}
+use Rattle.snapshot_judge.specs.Decide.{countsOf}
 
 -- next index, live total, rows, and the starting threshold with no removals
 abbrev pub freshRecord : ℕ → ℕ → ℕ → ℕ → Counters
@@ -13,3 +18,7 @@ freshRecord next live stored base =
       stored = stored;
       maintenance = record { «alive_removed_since_shrink» = 0; «small_removed_since_shrink» = zeros 8; «min_alive_removed_before_shrink» = base };
     }
+
+-- the counters of a plan, with a live total
+abbrev pub plannedState : List ℕ → Plan → ℕ → State
+plannedState s p live = record { next = p .next; live = live; counts = countsOf s (p .end) (p .large); maintenance = freshMaintenance (standard .base) }

@@ -1,18 +1,19 @@
--- Counts laid into a table one behind the other, and the ways of the call.
+-- Counts laid into a table one behind the other, and the ways of both calls.
 -- Assumes nothing.
 use mathlib.Core.Path.{_≡_, refl, sym, ap, _∙_}
 use mathlib.Core.Bool.{Bool, true, false}
 use mathlib.Core.List.{List, [], _∷_, _++_, append-nil}
-use Prim.Native.Nat.{ℕ, zero, suc, _+_, _-_, _*_, _/_, _≤_, _<_}
+use Prim.Native.Nat.{ℕ, zero, suc, _+_, _-_, _*_, _/_, _≤_, _<_, max}
 use native.Mathlib.Omega.{arith}
 use native.Mathlib.Numerals.{add-one}
 use lib.ListN.{length, take, drop, getD, set, length-drop, length-replicate}
 use lib.Seq.{paste, take-suc, drop-cons, drop-length, take-length, length-take-le}
 use lib.Dec.{leb}
-use borrow.Author.Tests.{leb-false}
+use borrow.Author.Tests.{leb-false, le-ltb, lt-ltb}
 use Rattle.base.specs.Logic.{any, flat, zeros, overlay}
 use Rattle.base.specs.ListLaws.{or-false}
 use Rattle.base.specs.declared.Refusal.{Refusal}
+use Rattle.base.specs.declared.Refusal.the-variants.{FewCells}
 use Rattle.base.specs.declared.Answer.the-variants.{Taken, Refused}
 use Rattle.slices.specs.Laws.{paste-start, paste-right, paste-two}
 use Rattle.rows.specs.Table.{tableOf}
@@ -22,9 +23,11 @@ use Rattle.counters.specs.Counts.{Entry, freshMaintenance, fresh}
 use Rattle.counters.specs.Layout as layout
 use Rattle.counters.specs.Layout.{countRow, recordOf}
 use Rattle.counters.specs.CodingLaws.{count-lawful}
-use Rattle.counters.specs.Calls.{laid, laidOut}
+use Rattle.counters.specs.Batch.{bound}
+use Rattle.counters.specs.Calls.{Changed, laid, laidOut, effect, newEffect}
 use Rattle.counters.specs.Maintenance.{standard}
-use Rattle.snapshot.specs.Calls.{deserializeCall}
+use Rattle.snapshot.specs.Read.{readSnapshot, raised}
+use Rattle.snapshot.specs.Calls.{deserializeCall, loadEffect, loadCall}
 use Rattle.snapshot_tiers.specs.declared.Head.{Head}
 use Rattle.snapshot_judge.specs.declared.decide.Plan.{Plan}
 use Rattle.snapshot_judge.specs.declared.decide.Verdict.the-variants as verdicts
@@ -34,7 +37,7 @@ use Rattle.snapshot_tiers.specs.JoinLaws.{Front, restOf}
 use Rattle.snapshot_judge.specs.Judge.{far}
 use Rattle.snapshot_judge.specs.Decide.{countsOf, Planned}
 use Rattle.snapshot_judge.specs.DecideLaws.{Decided}
-use Rattle.snapshot_read.specs.Fresh.{freshRecord}
+use Rattle.snapshot_read.specs.Fresh.{freshRecord, plannedState}
 
 -- ---- a row behind the others
 module _ (len : ℕ) (es : List Entry) (i n : ℕ) (room : length es * 2 + 2 ≤ len) where
@@ -102,35 +105,51 @@ module _ (lo : ℕ) (xss : List (List ℕ)) (big both : List Entry) (a b f : Hea
       let q : any (far next) (entry (f .idx) (f .count) ∷ setAll (fromIdx (f .idx + 1) big) (tierOf (restOf (f .idx) xss))) ≡ false = rw row-left at (any-drop next k both g) in
       leb-false next (f .idx) (or-false (leb next (f .idx)) (any (far next) (setAll (fromIdx (f .idx + 1) big) (tierOf (restOf (f .idx) xss)))) q .0)
 
--- ---- the ways of the call
+-- ---- a table of any content
 pub zeros-filled : (t : List ℕ) → paste t 0 (zeros (length t)) (length t) ≡ zeros (length t)
 unfolding overlay
 zeros-filled t =
     paste-start t (zeros (length t)) (length t) (length-replicate {A = ℕ} (length t) 0)
     ∙ rw (length-replicate {A = ℕ} (length t) 0, drop-length t, append-nil (zeros (length t)))
 
-module _ (s t : List ℕ) where
-  pub call-refused : (q : Refusal) → Decided s (length t / 2) (verdicts.Refused q)
-      → record { result = record { answer = Refused q; counters = freshRecord 0 0 0 0 }; table = t } ≡ deserializeCall (standard .base) s t
-  unfolding deserializeCall laidOut recordOf fresh freshMaintenance
-  call-refused q d = rw (← d .outcome (standard .base))
+-- a table that is filled with zeros, and then laid
+module _ (s t u : List ℕ) (p : Plan) (e : u ≡ paste t 0 (zeros (length t)) (length t)) where
+  filled : u ≡ zeros (length t)
+  filled = e ∙ zeros-filled t
 
-  pub call-taken : (p : Plan) → Decided s (length t / 2) (verdicts.Fits p)
-      → record { result = record { answer = Taken; counters = freshRecord (p .next) (p .live) (p .rows) 131072 }; table = tableOf countRow (length t) (countsOf s (p .end) (p .large)) }
-      ≡ deserializeCall (standard .base) s t
-  unfolding deserializeCall laidOut laid recordOf layout.tableOf freshMaintenance standard
-  call-taken p d = rw (← d .outcome (standard .base), d .plan .rows)
+  length-filled : length u ≡ length t
+  length-filled = ap length filled ∙ length-replicate {A = ℕ} (length t) 0
 
-  module _ (u : List ℕ) (e : u ≡ paste t 0 (zeros (length t)) (length t)) where
-    filled : u ≡ zeros (length t)
-    filled = e ∙ zeros-filled t
+  pub lay-filled : Planned s (length t / 2) p → (u ≡ zeros (length u)) × Planned s (length u / 2) p
+  lay-filled q = (filled ∙ ap zeros (sym length-filled), rw length-filled q)
 
-    length-filled : length u ≡ length t
-    length-filled = ap length filled ∙ length-replicate {A = ℕ} (length t) 0
+  pub lay-laid : (live : ℕ) {w : List ℕ} {c : Counters} → Planned s (length t / 2) p → w ≡ tableOf countRow (length u) (countsOf s (p .end) (p .large))
+      → c ≡ freshRecord (p .next) live (p .rows) 131072 → newEffect c w ≡ laid (length t) (plannedState s p live)
+  unfolding laid recordOf layout.tableOf freshMaintenance standard
+  lay-laid live q g h = rw (g, length-filled, h, q .rows)
 
-    pub lay-filled : (p : Plan) → Planned s (length t / 2) p → (u ≡ zeros (length u)) × Planned s (length u / 2) p
-    lay-filled p q = (filled ∙ ap zeros (sym length-filled), rw length-filled q)
+-- ---- the ways of both calls
+module _ (s t : List ℕ) (q : Refusal) (d : Decided s (length t / 2) (verdicts.Refused q)) where
+  pub call-refused : effect (record { answer = Refused q; counters = freshRecord 0 0 0 0 }) t ≡ deserializeCall (standard .base) s t
+  unfolding deserializeCall readSnapshot laidOut recordOf fresh freshMaintenance
+  call-refused = rw (← d .outcome (standard .base))
 
-    pub call-laid : (p : Plan) (w : List ℕ) (c : Counters) → w ≡ tableOf countRow (length u) (countsOf s (p .end) (p .large)) → c ≡ freshRecord (p .next) (p .live) (p .rows) 131072
-        → Decided s (length t / 2) (verdicts.Fits p) → record { result = record { answer = Taken; counters = c }; table = w } ≡ deserializeCall (standard .base) s t
-    call-laid p w c g h d = rw (g, length-filled, h) (call-taken p d)
+  pub load-refused : loadEffect (record { answer = Refused q; counters = freshRecord 0 0 0 0; «old_total» = 0 }) t ≡ loadCall (standard .base) s t
+  unfolding loadCall laidOut recordOf fresh freshMaintenance
+  load-refused = rw (← d .outcome (standard .base))
+
+module _ (s t : List ℕ) (p : Plan) (d : Decided s (length t / 2) (verdicts.Fits p)) where
+  pub call-few : p .live < p .rows → effect (record { answer = Refused FewCells; counters = freshRecord 0 0 0 0 }) t ≡ deserializeCall (standard .base) s t
+  unfolding deserializeCall readSnapshot bound laidOut recordOf fresh freshMaintenance
+  call-few h = rw (← d .outcome (standard .base), ← d .plan .rows, lt-ltb (p .live) (p .rows) h)
+
+  pub call-laid : {w : List ℕ} {c : Counters} → p .rows ≤ p .live → newEffect c w ≡ laid (length t) (plannedState s p (p .live)) → newEffect c w ≡ deserializeCall (standard .base) s t
+  unfolding deserializeCall readSnapshot bound laidOut
+  call-laid h e = rw (← d .outcome (standard .base), ← d .plan .rows, le-ltb (p .live) (p .rows) h) e
+
+  pub load-laid : {live : ℕ} {w : List ℕ} {c : Counters} → live ≡ max (p .live) (p .rows) → newEffect c w ≡ laid (length t) (plannedState s p live)
+      → loadEffect (record { answer = Taken; counters = c; «old_total» = p .live }) w ≡ loadCall (standard .base) s t
+  unfolding loadCall raised laidOut
+  load-laid h e =
+      rw (← d .outcome (standard .base), ← d .plan .rows, ← h)
+      (ap (λ (x : Changed). loadEffect (record { answer = x .result .answer; counters = x .result .counters; «old_total» = p .live }) (x .table)) e)

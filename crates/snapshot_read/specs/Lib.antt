@@ -1,3 +1,3 @@
--- `Fresh`: the record of counters that are read. `LayLaws`: counts laid into a table one behind the other, and the ways of the call.
+-- `Fresh`: the counters that are read, and their record. `LayLaws`: counts laid into a table one behind the other, and the ways of both calls.
 pub mod Fresh
 pub mod LayLaws

@@ -1,10 +1,13 @@
-// Reading a counters' snapshot into a lent table of any content. All is decided before the first write, so that a refusal
-// leaves the table as it was; then both tiers are gone through once more, by index, and each count is laid behind the one before.
+// Reading and loading a counters' snapshot into a lent table of any content. All is decided before the first write, so that a
+// refusal leaves the table as it was; then both tiers are gone through once more, by index, and each count is laid behind the one
+// before.
 use base::Answer;
+use base::Refusal;
 use counters::Applied;
 use counters::CounterMaintenance;
 use counters::Counters;
 use counters::NextIdx;
+use snapshot::Loaded;
 use snapshot_judge::decide::Plan;
 use snapshot_judge::decide::Verdict;
 use snapshot_judge::decide::decide;
@@ -16,16 +19,17 @@ use snapshot_tiers::large::large_after;
 use snapshot_tiers::large::large_head;
 use snapshot_tiers::large::sorted;
 ghost use mathlib.Core.Path.{_≡_};
-ghost use Prim.Native.Nat.{_/_};
+ghost use Prim.Native.Nat.{_/_, max};
 ghost use lib.ListN.{length};
 ghost use Rattle.base.specs.Logic.{zeros};
+ghost use Rattle.base.specs.declared.Answer.the-variants.{Refused};
 ghost use Rattle.rows.specs.Table.{tableOf};
 ghost use Rattle.counters.specs.Layout.{countRow};
 ghost use Rattle.counters.specs.Maintenance.{standard};
-ghost use Rattle.counters.specs.Calls.{effect};
-ghost use Rattle.snapshot.specs.Calls.{deserializeCall};
+ghost use Rattle.counters.specs.Calls.{effect, newEffect, laid};
+ghost use Rattle.snapshot.specs.Calls.{deserializeCall, loadEffect, loadCall};
 ghost use Rattle.snapshot_judge.specs.Decide.{countsOf, Planned};
-ghost use Rattle.snapshot_read.specs.Fresh.{freshRecord};
+ghost use Rattle.snapshot_read.specs.Fresh.{freshRecord, plannedState};
 
 // The counts of both tiers go into a table of zeros, by index.
 fn lay(t: &mut [u64], s: &[u8], p: Plan)
@@ -69,27 +73,83 @@ fn record_of(next: u64, live: u64, stored: usize, base: u64) -> Counters
     }
 }
 
+// The counts of a plan, laid over whatever the table holds, and their record with a live total.
+fn laid_in(t: &mut [u64], s: &[u8], p: Plan, live: u64) -> Counters
+    requires { ⌜ Planned (now s) (length (now t) / 2) p ⌝ }
+    ensures { λ r. ⌜ newEffect r (now (t .exit)) ≡ laid (length (now (t .entry))) (plannedState (now (s .entry)) p live) ⌝ }
+{
+    let len = t.len();
+    word_slices::fill(t, 0, len, 0);
+    lay(t, s, p);
+    record_of(p.next, live, p.rows, 131072)
+}
+
+// A refusal, with a record of zeros.
+fn refused(q: Refusal) -> Applied
+    ensures { λ r. ⌜ r ≡ record { answer = Refused q; counters = freshRecord 0 0 0 0 } ⌝ }
+{
+    let counters = record_of(0, 0, 0, 0);
+    Applied {
+        answer: Answer::Refused(q),
+        counters,
+    }
+}
+
 // The counters that a snapshot holds, laid into the table. Where they are refused the record is all zeros.
 pub fn deserialize_trusted(s: &[u8], t: &mut [u64]) -> Applied
     ensures { λ r. ⌜ effect r (now (t .exit)) ≡ deserializeCall (standard .base) (now (s .entry)) (now (t .entry)) ⌝ }
 {
-    let len = t.len();
-    let v = decide(s, len / 2);
+    let v = decide(s, t.len() / 2);
     match v {
-        Verdict::Refused(q) => {
-            let counters = record_of(0, 0, 0, 0);
-            Applied {
-                answer: Answer::Refused(q),
-                counters,
-            }
-        }
+        Verdict::Refused(q) => refused(q),
         Verdict::Fits(p) => {
-            word_slices::fill(t, 0, len, 0);
-            lay(t, s, p);
-            let counters = record_of(p.next, p.live, p.rows, 131072);
+            let live = p.live;
+            if live < p.rows as u64 {
+                return refused(Refusal::FewCells);
+            }
+            let counters = laid_in(t, s, p, live);
             Applied {
                 answer: Answer::Taken,
                 counters,
+            }
+        }
+    }
+}
+
+// A live total, raised to the number of stored counts where it is below that.
+fn raised_total(live: u64, rows: usize) -> u64
+    ensures { λ r. ⌜ r ≡ max live rows ⌝ }
+{
+    let stored = rows as u64;
+    if live < stored {
+        return stored;
+    }
+    live
+}
+
+// The counters of a snapshot that may be from before 25: in the place of that refusal the live total is raised, and the total that
+// the snapshot has is returned beside them.
+pub fn load_snapshot(s: &[u8], t: &mut [u64]) -> Loaded
+    ensures { λ r. ⌜ loadEffect r (now (t .exit)) ≡ loadCall (standard .base) (now (s .entry)) (now (t .entry)) ⌝ }
+{
+    let v = decide(s, t.len() / 2);
+    match v {
+        Verdict::Refused(q) => {
+            let x = refused(q);
+            let counters = x.counters;
+            Loaded {
+                answer: Answer::Refused(q),
+                counters,
+                old_total: 0,
+            }
+        }
+        Verdict::Fits(p) => {
+            let live = raised_total(p.live, p.rows);
+            let counters = laid_in(t, s, p, live);
+            Loaded {
+                answer: Answer::Taken,
+                counters,
+                old_total: p.live,
             }
         }
     }

@@ -1,11 +1,9 @@
-use mathlib.Core.Path.{subst, sym, _∙_}
 use Prim.Native.Nat.{_/_}
-use Rattle.snapshot_judge.specs.declared.decide.Verdict.the-variants.{Fits, Refused}
-use Rattle.snapshot_judge.specs.DecideLaws.{Decided, decided}
-use Rattle.snapshot_read.specs.LayLaws.{lay-filled, call-refused, call-laid}
-use Prim.Native.Nat.{_-_}
-use borrow.Author.Needs.{needs}
+use native.Mathlib.Omega.{arith}
 use lib.ListN.{length}
+use Rattle.snapshot_judge.specs.DecideLaws.{decided-as}
+use Rattle.snapshot_read.specs.LayLaws.{call-refused, call-few, call-laid}
+use borrow.Author.Needs.{needs}
 use Rattle.snapshot_read.proofs.deserialize_trusted.Statement.{statement}
 use Rattle.snapshot_read.proofs.deserialize_trusted.Tie as tie
 
@@ -15,41 +13,46 @@ decide-requires c κs = search needs
 enum-known-v : tie.Need-enum-known-v
 enum-known-v c = search needs
 
-record-of-requires : tie.Need-record-of-requires
-record-of-requires c κs = search needs
+refused-requires : tie.Need-refused-requires
+refused-requires c κs = search needs
 
 enum-known-v-2 : tie.Need-enum-known-v-2
 enum-known-v-2 c = search needs
 
-fill-requires : tie.Need-fill-requires
-fill-requires c κs = search needs
-
-lay-requires : tie.Need-lay-requires
-lay-requires c κs =
-    let a = c .before .before .before .before .before .before .before .before .before .before .before .args in
-    let x = c .before .before .before .before .before .before .v2 .given in
-    let q : Decided (a .s .now) (length (a .t .now) / 2) (Fits (x .0 .0)) = subst (λ r. Decided (a .s .now) (length (a .t .now) / 2) r) (sym (c .before .before .before .before .before .before .before .before .decide .ensures) ∙ x .1) (decided (length (a .t .now) / 2) (a .s .now)) in
-    lay-filled (a .s .now) (a .t .now) _ (c .before .before .before .fill .ensures) (x .0 .0) (q .plan)
-
-record-of-requires-2 : tie.Need-record-of-requires-2
-record-of-requires-2 c κs = search needs
+refused-requires-2 : tie.Need-refused-requires-2
+refused-requires-2 c κs = search needs
 
 returns : tie.Need-returns
 returns c =
-    let a = c .before .before .before .before .before .before .before .args in
-    let x = c .before .before .v .given in
-    let q : Decided (a .s .now) (length (a .t .now) / 2) (Refused (x .0 .0)) = subst (λ r. Decided (a .s .now) (length (a .t .now) / 2) r) (sym (c .before .before .before .before .decide .ensures) ∙ x .1) (decided (length (a .t .now) / 2) (a .s .now)) in
-    rw (c .record-of .ensures) (call-refused (a .s .now) (a .t .now) (x .0 .0) q)
+    let f = c .before .before .before in
+    let a = f .before .before .before .before .before .args in
+    let x = f .v2 .given in
+    rw (c .refused2 .ensures)
+    (call-few (a .s .now) (a .t .now) (x .0 .0) (decided-as (length (a .t .now) / 2) (a .s .now) (f .before .before .decide .ensures) (x .1)) (omega arith))
+
+laid-in-requires : tie.Need-laid-in-requires
+laid-in-requires c κs =
+    let f = c .before .before .before in
+    let a = f .before .before .before .before .before .args in
+    decided-as (length (a .t .now) / 2) (a .s .now) (f .before .before .decide .ensures) (f .v2 .given .1) .plan
+
+returns-2 : tie.Need-returns-2
+returns-2 c =
+    let f = c .before .before in
+    let a = f .before .before .before .before .before .args in
+    let x = f .v .given in
+    rw (c .refused .ensures)
+    (call-refused (a .s .now) (a .t .now) (x .0 .0) (decided-as (length (a .t .now) / 2) (a .s .now) (f .before .before .decide .ensures) (x .1)))
 
 same-length : tie.Need-same-length
 same-length c = search needs
 
-returns-2 : tie.Need-returns-2
-returns-2 c =
-    let a = c .before .before .before .before .before .before .before .before .before .before .before .before .before .before .before .args in
-    let x = c .before .before .before .before .before .before .before .before .before .before .v2 .given in
-    let q : Decided (a .s .now) (length (a .t .now) / 2) (Fits (x .0 .0)) = subst (λ r. Decided (a .s .now) (length (a .t .now) / 2) r) (sym (c .before .before .before .before .before .before .before .before .before .before .before .before .decide .ensures) ∙ x .1) (decided (length (a .t .now) / 2) (a .s .now)) in
-    call-laid (a .s .now) (a .t .now) _ (c .before .before .before .before .before .before .before .fill .ensures) (x .0 .0) _ _ (c .before .before .before .lay .ensures) (c .record-of2 .ensures) q
+returns-3 : tie.Need-returns-3
+returns-3 c =
+    let f = c .before .before .before .before .before .before in
+    let a = f .before .before .before .before .before .args in
+    let x = f .v2 .given in
+    call-laid (a .s .now) (a .t .now) (x .0 .0) (decided-as (length (a .t .now) / 2) (a .s .now) (f .before .before .decide .ensures) (x .1)) (omega arith) (c .before .before .laid-in .ensures)
 
 pub deserialize-trusted-spec : {M : Type 1} → statement M
 deserialize-trusted-spec =
@@ -57,11 +60,11 @@ deserialize-trusted-spec =
     (tie.spec
     decide-requires
     enum-known-v
-    record-of-requires
+    refused-requires
     enum-known-v-2
-    fill-requires
-    lay-requires
-    record-of-requires-2
+    refused-requires-2
     returns
+    laid-in-requires
+    returns-2
     same-length
-    returns-2)
+    returns-3)
