@@ -5,7 +5,7 @@ use state_words::nursery_words;
 ghost use mathlib.Core.Path.{_≡_};
 ghost use mathlib.Core.List.{[], _∷_};
 ghost use Rattle.state_words.specs.Words.{said};
-ghost use Rattle.word_calls.specs.CountersSaid.{deserializeSaid};
+ghost use Rattle.word_calls.specs.CountersSaid.{deserializeSaid, loadSaid};
 ghost use Rattle.word_calls.specs.RecordSaid.{journalSaid};
 
 // The state that a snapshot holds, into a record and a table of any content. A refusal changes neither.
@@ -23,6 +23,30 @@ pub extern "C" fn selvaigo_deserialize_trusted(
         Answer::Taken => {
             let c = x.counters;
             *state = counters_words(c);
+            0
+        }
+        Answer::Refused(q) => q.number(),
+    }
+}
+
+// The same of a snapshot from before 25, in whose place a live total below the counts is raised to them. The snapshot's own total goes
+// into old_total, 0 beside a refusal.
+#[no_mangle]
+pub extern "C" fn selvaigo_load_snapshot(
+    snapshot: &[u8],
+    state: &mut [u64; 13],
+    counts: &mut [u64],
+    old_total: &mut [u64; 1],
+) -> u8
+    ensures { λ r. ⌜ said r (now («old_total» .exit) ∷ []) (now (state .exit) ∷ now (counts .exit) ∷ []) ≡ loadSaid (now (snapshot .entry)) (now (state .entry)) (now (counts .entry)) ⌝ }
+{
+    let x = snapshot_read::load_snapshot(snapshot, counts);
+    *old_total = [x.old_total];
+    let a = x.answer;
+    match a {
+        Answer::Taken => {
+            let loaded = x.counters;
+            *state = counters_words(loaded);
             0
         }
         Answer::Refused(q) => q.number(),

@@ -10,7 +10,7 @@ use Rattle.counters.specs.declared.Got.{Got}
 use Rattle.counters.specs.declared.Shrunk.{Shrunk}
 use Rattle.counters.specs.Maintenance.{standard}
 use Rattle.counters.specs.Calls.{Changed, newCall, allocCall, getCall, batchCall, shrinkCall}
-use Rattle.snapshot.specs.Calls.{serializeCall, deserializeCall, lengthCall}
+use Rattle.snapshot.specs.Calls.{Loading, serializeCall, deserializeCall, loadCall, lengthCall}
 use Rattle.state_words.specs.Words.{countersOf, countersWords, decisions, Said, said, oneWord, writtenSaid, wordsAfter}
 
 -- ---- what the calls under them give, in words
@@ -38,6 +38,10 @@ lengthFound x = said (answerNumber (x .answer)) (oneWord (x .len)) []
 -- a state that was read in: its record's words are written where it was taken, and its table
 unfoldable pub readSaid : List ℕ → Changed → Said
 readSaid w x = said (answerNumber (x .result .answer)) [] (wordsAfter w (x .result .answer) (countersWords (x .result .counters)) ∷ x .table ∷ [])
+
+-- the same of one that was loaded: the value is the total that the snapshot has
+unfoldable pub loadedSaid : List ℕ → Loading → Said
+loadedSaid w x = said (answerNumber (x .result .answer)) (oneWord (x .result .«old_total»)) (wordsAfter w (x .result .answer) (countersWords (x .result .counters)) ∷ x .table ∷ [])
 
 -- ---- the calls, where w is the record's words and t the table of counts
 
@@ -72,3 +76,7 @@ serializeSaid w t out = writtenSaid (serializeCall (countersOf w) t out)
 -- the counters of the snapshot bs, whatever the words and the table were
 unfoldable pub deserializeSaid : List ℕ → List ℕ → List ℕ → Said
 deserializeSaid bs w t = readSaid w (deserializeCall (standard .base) bs t)
+
+-- the same, with a live total that may be raised
+unfoldable pub loadSaid : List ℕ → List ℕ → List ℕ → Said
+loadSaid bs w t = loadedSaid w (loadCall (standard .base) bs t)

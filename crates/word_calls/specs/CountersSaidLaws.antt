@@ -15,9 +15,10 @@ use Rattle.counters.specs.declared.Shrunk.{Shrunk}
 use Rattle.counters.specs.Maintenance.{standard}
 use Rattle.counters.specs.Calls.{effect, newEffect, newCall, allocCall, getCall, batchCall, shrinkCall}
 use Rattle.base.specs.Output as output
-use Rattle.snapshot.specs.Calls.{serializeCall, deserializeCall, lengthCall}
+use Rattle.snapshot.specs.declared.Loaded.{Loaded}
+use Rattle.snapshot.specs.Calls.{serializeCall, deserializeCall, loadEffect, loadCall, lengthCall}
 use Rattle.state_words.specs.Words.{countersOf, countersWords, said, oneWord, decisions, writtenSaid}
-use Rattle.word_calls.specs.CountersSaid.{changedSaid, allocatedSaid, gotSaid, shrunkSaid, lengthFound, readSaid, newSaid, allocSaid, getSaid, batchSaid, shrinkSaid, lengthSaid, serializeSaid, deserializeSaid}
+use Rattle.word_calls.specs.CountersSaid.{changedSaid, allocatedSaid, gotSaid, shrunkSaid, lengthFound, readSaid, loadedSaid, newSaid, allocSaid, getSaid, batchSaid, shrinkSaid, lengthSaid, serializeSaid, deserializeSaid, loadSaid}
 
 pub new-said : (next : ℕ) (t : List ℕ) {c : Counters} {u v : List ℕ} → newEffect c u ≡ newCall (standard .base) (record { 0 = next }) t → v ≡ countersWords c
     → said 0 [] (v ∷ u ∷ []) ≡ newSaid next t
@@ -64,3 +65,12 @@ module _ (w bs t : List ℕ) {u : List ℕ} {x : Applied} (g : effect x u ≡ de
   pub deserialize-refused : {q : Refusal} {r : ℕ} → x .answer ≡ Refused q → r ≡ numberOf q → said r [] (w ∷ u ∷ []) ≡ deserializeSaid bs w t
   unfolding deserializeSaid readSaid
   deserialize-refused a p = rw p (rw a at (ap (readSaid w) g))
+
+module _ (w bs t : List ℕ) {u : List ℕ} {x : Loaded} (g : loadEffect x u ≡ loadCall (standard .base) bs t) where
+  pub load-taken : {v n : List ℕ} → x .answer ≡ Taken → v ≡ countersWords (x .counters) → n ≡ x .«old_total» ∷ [] → said 0 (n ∷ []) (v ∷ u ∷ []) ≡ loadSaid bs w t
+  unfolding loadSaid loadedSaid
+  load-taken a q o = rw (q, o) (rw a at (ap (loadedSaid w) g))
+
+  pub load-refused : {q : Refusal} {r : ℕ} {n : List ℕ} → x .answer ≡ Refused q → r ≡ numberOf q → n ≡ x .«old_total» ∷ [] → said r (n ∷ []) (w ∷ u ∷ []) ≡ loadSaid bs w t
+  unfolding loadSaid loadedSaid
+  load-refused a p o = rw (p, o) (rw a at (ap (loadedSaid w) g))

@@ -10,12 +10,13 @@ use native.Mathlib.Omega.{arith}
 use lib.ListN.{length}
 use lib.Dec.{eqb}
 use Rattle.base.specs.Logic.{any, elem, zeros}
-use Rattle.base.specs.Answers.{Outcome, refused, taken, _>>=_, orRefuse, answerOf, valueOr, answerNumber, numberOf}
+use Rattle.base.specs.Answers.{Outcome, refused, taken, _>>=_, orRefuse, either, answerOf, valueOr, answerNumber, numberOf}
+use Rattle.base.specs.AnswerLaws.{Answers}
 use Rattle.base.specs.Output.{put, fitting, written}
 use Rattle.base.specs.declared.Answer.{Answer}
 use Rattle.base.specs.declared.Answer.the-variants.{Taken, Refused}
 use Rattle.base.specs.declared.Refusal.{Refusal}
-use Rattle.base.specs.declared.Refusal.the-variants.{Spent, Unallocated, Repeated, OffTotal, FalseOld, TableFull, Version, TornSnapshot, BadBitmap, BadLarge, TierClash, Present, NurseryFull, TooLong, OutputFull, ShortRecord, FarLength, Mismatch, Misfit, Broken, Damaged, Leftover}
+use Rattle.base.specs.declared.Refusal.the-variants.{Spent, Unallocated, Repeated, OffTotal, FalseOld, TableFull, Version, TornSnapshot, BadBitmap, BadLarge, TierClash, Present, NurseryFull, TooLong, OutputFull, ShortRecord, FarLength, Mismatch, Misfit, Broken, Damaged, Leftover, FewCells}
 use Rattle.counters.specs.declared.Counters.{Counters}
 use Rattle.counters.specs.Counts.{State, fresh, allocate, get}
 use Rattle.counters.specs.Batch.{applyBatch}
@@ -24,13 +25,15 @@ use Rattle.counters.specs.Layout.{roomOf, recordOf, holds, batchOf}
 use Rattle.counters.specs.Calls.{onState, laid, laidOut, newCall, allocated, allocCall, getCall, batchCall, decided, shrinkCall}
 use Rattle.counters.specs.CallLaws.{new-holds, alloc-holds, batch-holds, shrink-holds}
 use Rattle.snapshot.specs.Write.{snapshotBytes}
-use Rattle.snapshot.specs.Read.{readSnapshot}
-use Rattle.snapshot.specs.Calls.{serializeCall, deserializeCall, lengthCall}
+use Rattle.snapshot.specs.Read.{parseSnapshot, readSnapshot, raised}
+use Rattle.snapshot.specs.Calls.{serializeCall, deserializeCall, loadEffect, loadCall, lengthCall}
 use Rattle.snapshot_laws.specs.RefusalLaws.{read-numbers}
 use Rattle.snapshot_laws.specs.CallLaws.{deserialize-taken-holds}
+use Rattle.snapshot_laws.specs.LoadLaws as loads
+use Rattle.snapshot_laws.specs.LoadLaws.{load-holds}
 use Rattle.state_words.specs.Words.{countersOf, countersWords, oneWord, writtenSaid, wordsAfter, Unchanged, left}
 use Rattle.state_words.specs.WordLaws.{counters-words-back}
-use Rattle.word_calls.specs.CountersSaid.{changedSaid, allocatedSaid, gotSaid, shrunkSaid, lengthFound, readSaid, newSaid, allocSaid, getSaid, batchSaid, shrinkSaid, lengthSaid, serializeSaid, deserializeSaid}
+use Rattle.word_calls.specs.CountersSaid.{changedSaid, allocatedSaid, gotSaid, shrunkSaid, lengthFound, readSaid, loadedSaid, newSaid, allocSaid, getSaid, batchSaid, shrinkSaid, lengthSaid, serializeSaid, deserializeSaid, loadSaid}
 
 -- ---- refusals
 
@@ -99,14 +102,36 @@ module _ (w t : List ℕ) where
       go (taken s) n = absurd (n refl)
 
   -- a snapshot is refused with one of these: reading it in never gives 20
-  pub deserialize-numbers : (bs : List ℕ) → elem (deserializeSaid bs w t .answer) (0 ∷ 8 ∷ 7 ∷ 9 ∷ 10 ∷ 11 ∷ 6 ∷ []) ≡ true
+  pub deserialize-numbers : (bs : List ℕ) → elem (deserializeSaid bs w t .answer) (0 ∷ 8 ∷ 7 ∷ 9 ∷ 10 ∷ 11 ∷ 6 ∷ 25 ∷ []) ≡ true
   unfolding deserializeSaid readSaid deserializeCall laidOut laid any
   deserialize-numbers bs = go (readSnapshot (standard .base) (roomOf t) bs) refl
     where
       go : (o : Outcome State) → readSnapshot (standard .base) (roomOf t) bs ≡ o
-          → elem (answerNumber (laidOut (recordOf (fresh 0 0)) t o .result .answer)) (0 ∷ 8 ∷ 7 ∷ 9 ∷ 10 ∷ 11 ∷ 6 ∷ []) ≡ true
+          → elem (answerNumber (laidOut (recordOf (fresh 0 0)) t o .result .answer)) (0 ∷ 8 ∷ 7 ∷ 9 ∷ 10 ∷ 11 ∷ 6 ∷ 25 ∷ []) ≡ true
       go (refused r) e = rw (read-numbers (standard .base) (roomOf t) bs r e) (or-true (eqb (numberOf r) 0))
       go (taken s) e = refl
+
+  -- the same of loading: beside a refusal the total is 0
+  pub load-unchanged : (bs : List ℕ) → Unchanged (oneWord 0) (w ∷ t ∷ []) (loadSaid bs w t)
+  unfolding loadSaid loadedSaid loadCall laidOut laid
+  load-unchanged bs = go (parseSnapshot (standard .base) (roomOf t) bs)
+    where
+      go : (o : Outcome State)
+          → Unchanged (oneWord 0) (w ∷ t ∷ [])
+          (loadedSaid w
+          (let x = laidOut (recordOf (fresh 0 0)) t (o >>= (λ s. taken (raised s))) in
+          loadEffect (record { answer = x .result .answer; counters = x .result .counters; «old_total» = either (λ r. 0) (λ s. s .live) o }) (x .table)))
+      go (refused r) n = (refl, refl)
+      go (taken s) n = absurd (n refl)
+
+  -- and never 25
+  pub load-numbers : (bs : List ℕ) → elem (loadSaid bs w t .answer) (0 ∷ 8 ∷ 7 ∷ 9 ∷ 10 ∷ 11 ∷ 6 ∷ []) ≡ true
+  unfolding loadSaid loadedSaid any
+  load-numbers bs = go (loadCall (standard .base) bs t .result .answer) (loads.load-numbers (standard .base) bs t)
+    where
+      go : (a : Answer) → Answers (8 ∷ 7 ∷ 9 ∷ 10 ∷ 11 ∷ 6 ∷ []) a → elem (answerNumber a) (0 ∷ 8 ∷ 7 ∷ 9 ∷ 10 ∷ 11 ∷ 6 ∷ []) ≡ true
+      go Taken f = refl
+      go (Refused r) f = rw (f r refl) (or-true (eqb (numberOf r) 0))
 
 -- ---- what is left may be lent to the held forms
 
@@ -143,6 +168,7 @@ number-not-zero Misfit e = omega arith
 number-not-zero Broken e = omega arith
 number-not-zero Damaged e = omega arith
 number-not-zero Leftover e = omega arith
+number-not-zero FewCells e = omega arith
 
 pub new-held : (next : ℕ) (t : List ℕ) → Held (left 0 (newSaid next t)) (left 1 (newSaid next t))
 unfolding newSaid changedSaid
@@ -167,12 +193,19 @@ module _ (w t : List ℕ) where
     unfolding shrinkSaid shrunkSaid
     shrink-held saved = words-held (shrinkCall standard (countersOf w) t saved .counters) t (shrink-holds standard (countersOf w) t saved h)
 
+  -- a state that was read or loaded
+  read-held : (a : Answer) (c : Counters) (u : List ℕ) → (a ≡ Taken → holds c u ≡ true) → answerNumber a ≡ 0 → Held (wordsAfter w a (countersWords c)) u
+  read-held Taken c u h n = words-held c u (h refl)
+  read-held (Refused r) c u h n = absurd (number-not-zero r n)
+
   pub deserialize-held : (bs : List ℕ) → deserializeSaid bs w t .answer ≡ 0 → Held (left 0 (deserializeSaid bs w t)) (left 1 (deserializeSaid bs w t))
   unfolding deserializeSaid readSaid
   deserialize-held bs =
       let x = deserializeCall (standard .base) bs t in
-      go (x .result .answer) (x .result .counters) (x .table) (deserialize-taken-holds (standard .base) bs t)
-    where
-      go : (a : Answer) (c : Counters) (u : List ℕ) → (a ≡ Taken → holds c u ≡ true) → answerNumber a ≡ 0 → Held (wordsAfter w a (countersWords c)) u
-      go Taken c u h n = words-held c u (h refl)
-      go (Refused r) c u h n = absurd (number-not-zero r n)
+      read-held (x .result .answer) (x .result .counters) (x .table) (deserialize-taken-holds (standard .base) bs t)
+
+  pub load-held : (bs : List ℕ) → loadSaid bs w t .answer ≡ 0 → Held (left 0 (loadSaid bs w t)) (left 1 (loadSaid bs w t))
+  unfolding loadSaid loadedSaid
+  load-held bs =
+      let x = loadCall (standard .base) bs t in
+      read-held (x .result .answer) (x .result .counters) (x .table) (load-holds (standard .base) bs t)
