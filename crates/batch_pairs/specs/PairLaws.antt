@@ -17,6 +17,7 @@ use Rattle.counters.specs.Counts.{State}
 use Rattle.counters.specs.Maintenance.{maintained}
 use Rattle.counters.specs.Batch.{kept, stateAfter, applyKept, applyBatch}
 use Rattle.counters.specs.BatchLaws.{applyKept-order}
+use Rattle.counters.specs.BoundLaws.{bound-taken}
 use Rattle.counters.specs.Layout.{ordered, countRow, roomOf, withMaintenance, stateOf, holds, wordsOf, batchOf}
 use Rattle.counters.specs.LayoutLaws.{held}
 use Rattle.counters.specs.WordLaws.{words-batch}
@@ -38,6 +39,10 @@ module _ (c : Counters) (t : List ℕ) (h : holds c t ≡ true) where
   in-room : length (stateOf c t .counts) ≤ roomOf t
   unfolding stateOf
   in-room = omega (arith, held c t h .laid .fits, length-rowsOf countRow (c .stored) t)
+
+  in-bound : length (stateOf c t .counts) ≤ stateOf c t .live
+  unfolding stateOf
+  in-bound = omega (arith, held c t h .bounded, length-rowsOf countRow (c .stored) t)
 
   -- laid out, it is the record and the table
   laid-again : laid (length t) (stateOf c t) ≡ effect (record { answer = Taken; counters = c }) t
@@ -65,9 +70,10 @@ unfolding applyBatch laidOut
 applies c t ws ts w e =
     let (s′, a, m) = batch-accepted c t ws e in
     let same : a .transitions ≡ ts = cc (a .words, w) in
-    let ok : applyKept (roomOf t) (stateOf c t) (kept ts) ≡ taken s′ = rw same at (a .applied) in
+    let done : applyBatch (roomOf t) (stateOf c t) ts ≡ taken s′ = rw same at (a .applied) in
+    let (ok, many) = bound-taken (applyKept (roomOf t) (stateOf c t) (kept ts)) s′ .0 done in
     let (p, left) = taken-passes (roomOf t) (stateOf c t) (kept ts) s′ ok in
-    record { holding = a .holding; passes = p; leaves = batch-held c t ws ts (a .holding) w ∙ rw (ok, left); after = m ∙ left }
+    record { holding = a .holding; passes = p; leaves = batch-held c t ws ts (a .holding) w ∙ ap (laidOut c t) (done ∙ ap taken left); after = m ∙ left }
 
 -- ---- a second batch on what the first left
 module _ (c : Counters) (t ws vs : List ℕ) where
@@ -103,11 +109,19 @@ module _ (c : Counters) (t ws vs : List ℕ) where
           ∙ passes-taken (roomOf t) (stateAfter (kept ts) s) (map exchanged (kept ts)) (inverse-passes (roomOf t) s (kept ts) o few (a .passes))
           ∙ ap taken (inverse-state (roomOf t) s (kept ts) o few (a .passes))
 
+      -- what it leaves kept the bound before the batch
+      inverse-applied : applyBatch (roomOf t) (stateAfter (kept ts) s) us ≡ taken (stateOf left t)
+      unfolding applyBatch
+      inverse-applied = bound-taken (applyKept (roomOf t) (stateAfter (kept ts) s) (kept us)) (stateOf left t) .1 (inverse-taken, bounded)
+        where
+          bounded : length (stateOf left t .counts) ≤ stateOf left t .live
+          bounded = in-bound left t (holds-maintenance c t grown ∙ a .holding)
+
       inverse-leaves : batchCall c t ws .result .answer ≡ Taken → batchCall c₁ t₁ vs ≡ effect (record { answer = Taken; counters = left }) t
-      unfolding applyBatch laidOut
+      unfolding laidOut
       inverse-leaves e =
           batch-held c₁ t₁ vs us (batch-taken-holds c t ws e) v
-          ∙ rw (batch-length c t ws, a .after, inverse-taken)
+          ∙ rw (batch-length c t ws, a .after, inverse-applied)
           (ap (λ (n : ℕ). laid n (stateOf left t)) (batch-length c t ws) ∙ laid-again left t (holds-maintenance c t grown ∙ a .holding))
 
 -- ---- the two laws, of the call on a record and a table

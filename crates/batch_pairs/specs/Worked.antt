@@ -77,8 +77,12 @@ pub record Lines : Type 0 where
   birth-back : answer (batched (four 2) (2 ∷ 0 ∷ 1 ∷ [])) (2 ∷ 1 ∷ 0 ∷ []) ≡ 0
   birth-back-box : both (four 2) (2 ∷ 0 ∷ 1 ∷ []) (2 ∷ 1 ∷ 0 ∷ []) ≡ four 2
   death-alone : answer (four 2) (2 ∷ 1 ∷ 0 ∷ []) ≡ 4
-  -- a row that was never born: 1 → 5 and back
-  unborn-back : answer (batched (four 2) (2 ∷ 1 ∷ 5 ∷ [])) (2 ∷ 5 ∷ 1 ∷ []) ≡ 0
+  -- with one alive, 1 → 5 and back; with none 1 → 5 is 25
+  alive-back : answer (batched (alive 1) (2 ∷ 1 ∷ 5 ∷ [])) (2 ∷ 5 ∷ 1 ∷ []) ≡ 0
+  alive-back-snapshot : snapshotOf (both (alive 1) (2 ∷ 1 ∷ 5 ∷ []) (2 ∷ 5 ∷ 1 ∷ [])) ≡ snapshotOf (alive 1)
+  unborn : answer (four 2) (2 ∷ 1 ∷ 5 ∷ []) ≡ 25
+  -- as many counts as cells before, between and after
+  bound-back : answer (batched at256 (1 ∷ 1 ∷ 4 ∷ 3 ∷ 256 ∷ 1 ∷ [])) (3 ∷ 1 ∷ 256 ∷ 1 ∷ 4 ∷ 1 ∷ []) ≡ 0
   -- up into the large tier and back: the snapshot is as before, the removal counters aren't
   large-back : answer (batched at256 (3 ∷ 256 ∷ 257 ∷ [])) (3 ∷ 257 ∷ 256 ∷ []) ≡ 0
   large-snapshot : snapshotOf again256 ≡ snapshotOf at256
@@ -100,13 +104,15 @@ pub record Lines : Type 0 where
   -- with an index in common too: 0 → 1 and 1 → 0, one alive
   common-taken : (answer (batched (alive 1) (2 ∷ 0 ∷ 1 ∷ [])) (2 ∷ 1 ∷ 0 ∷ []) ≡ 0) × (answer (batched (alive 1) (2 ∷ 1 ∷ 0 ∷ [])) (2 ∷ 0 ∷ 1 ∷ []) ≡ 0)
   common : both (alive 1) (2 ∷ 0 ∷ 1 ∷ []) (2 ∷ 1 ∷ 0 ∷ []) ≡ both (alive 1) (2 ∷ 1 ∷ 0 ∷ []) (2 ∷ 0 ∷ 1 ∷ [])
-  -- one order alone is accepted: a death first is 4, a row too many first 6, an old count that isn't stored yet 5
-  birth-death : answer (batched (four 2) (0 ∷ 0 ∷ 2 ∷ [])) (1 ∷ 1 ∷ 0 ∷ []) ≡ 0
+  -- one order alone is accepted: a death first is 4, a row too many first 6, an old count that isn't stored yet 5, a count before its cell 25
+  birth-death : answer (batched (four 2) (0 ∷ 0 ∷ 1 ∷ [])) (1 ∷ 1 ∷ 0 ∷ []) ≡ 0
   death-first : answer (four 2) (1 ∷ 1 ∷ 0 ∷ []) ≡ 4
   free-store : answer (batched tight (0 ∷ 3 ∷ 1 ∷ [])) (1 ∷ 0 ∷ 4 ∷ []) ≡ 0
   store-first : answer tight (1 ∷ 0 ∷ 4 ∷ []) ≡ 6
   up-twice : answer (batched (four 2) (0 ∷ 0 ∷ 3 ∷ [])) (0 ∷ 3 ∷ 4 ∷ []) ≡ 0
   later-first : answer (four 2) (0 ∷ 3 ∷ 4 ∷ []) ≡ 5
+  birth-count : answer (batched (four 2) birth) (0 ∷ 1 ∷ 5 ∷ []) ≡ 0
+  count-first : answer (four 2) (0 ∷ 1 ∷ 5 ∷ []) ≡ 25
   -- three answers of the four don't do: one below the largest total the last is 4, and the boxes differ
   three-taken : (answer (alive (max64 - 1)) in-and-out ≡ 0) × (answer (batched (alive (max64 - 1)) in-and-out) birth ≡ 0) × (answer (alive (max64 - 1)) birth ≡ 0)
   fourth-refused : answer (batched (alive (max64 - 1)) birth) in-and-out ≡ 4
@@ -126,7 +132,10 @@ lines =
       birth-back = refl;
       birth-back-box = refl;
       death-alone = refl;
-      unborn-back = refl;
+      alive-back = refl;
+      alive-back-snapshot = refl;
+      unborn = refl;
+      bound-back = refl;
       large-back = refl;
       large-snapshot = refl;
       none-removed = refl;
@@ -148,6 +157,8 @@ lines =
       store-first = refl;
       up-twice = refl;
       later-first = refl;
+      birth-count = refl;
+      count-first = refl;
       three-taken = (refl, refl, refl);
       fourth-refused = refl;
       three-counts = refl;

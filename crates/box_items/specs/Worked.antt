@@ -39,6 +39,11 @@ pub document-01 : run (item 1 [] ++ item 1 [] ++ item 2 (three 1 0 3 ++ three 0 
 unfolding evaluation
 document-01 = refl
 
+-- 1 → 5 of an index that was never born is 25, which changes nothing; 0 → 5 is taken after it
+pub never-born : run (item 1 [] ++ item 2 (three 0 1 5) ++ item 2 (three 0 0 5)) ≡ line 0 1 0 1 0 ∷ line 1 2 25 1 0 ∷ line 2 2 0 1 1 ∷ []
+unfolding evaluation
+never-born = refl
+
 pub no-input : run [] ≡ []
 unfolding evaluation
 no-input = refl

@@ -38,7 +38,7 @@ pub record CountersHeld (len : ℕ) (c : Counters) (t : List ℕ) (s : State) : 
 
 module _ {len : ℕ} {c : Counters} {t : List ℕ} {s : State} (h : CountersHeld len c t s) where
   pub counters-hold : holds c t ≡ true
-  counters-hold = rw (h .same-record, h .same-table) (holds-laid s len (omega (arith, h .fits)) (h .well .sorted))
+  counters-hold = rw (h .same-record, h .same-table) (holds-laid s len (omega (arith, h .fits)) (h .well .sorted) (h .well .bounded))
 
   pub counters-state : stateOf c t ≡ s
   counters-state = rw (h .same-record, h .same-table) (stateOf-laid s len (omega (arith, h .fits)))
@@ -100,7 +100,7 @@ module _ {len : ℕ} {c : Counters} {t : List ℕ} {s : State} (h : CountersHeld
         same-record = ap (λ (d : Counters). withMaintenance d (adjusted standard saved (d .maintenance))) (h .same-record);
         same-table = h .same-table;
         fits = h .fits;
-        well = record { next-fits = w .next-fits; live-fits = w .live-fits; sorted = w .sorted; counts-fit = w .counts-fit };
+        well = record { next-fits = w .next-fits; live-fits = w .live-fits; sorted = w .sorted; bounded = w .bounded; counts-fit = w .counts-fit };
       }
 
   -- ---- shrinking

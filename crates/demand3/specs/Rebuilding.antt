@@ -126,7 +126,7 @@ module _ (a : History) (ok : Typed a) (k : ℕ) (short : k ≤ length (journalOf
         let w = was-held .well in
         subst (λ (r : counters-calls.Changed). CountersHeld (length t) (r .result .counters) (r .table) renewedCounters) (sym counters-read)
         (laid-counters (length t) renewedCounters (rw lt (was-held .fits))
-        (record { next-fits = w .next-fits; live-fits = w .live-fits; sorted = w .sorted; counts-fit = w .counts-fit }))
+        (record { next-fits = w .next-fits; live-fits = w .live-fits; sorted = w .sorted; bounded = w .bounded; counts-fit = w .counts-fit }))
 
     nursery-held : NurseryHeld (length es) (length ws) (length cs) (box .nursery) (box .entries) (box .waiting) (box .cells) state
     unfolding readBack rebuild readOut

@@ -16,14 +16,14 @@ use Rattle.base.specs.Answers.{taken, _>>=_, orRefuse, answerOf, numberOf}
 use Rattle.base.specs.Output.{fitting}
 use Rattle.base.specs.declared.Answer.the-variants.{Refused}
 use Rattle.base.specs.declared.Refusal.{Refusal}
-use Rattle.base.specs.declared.Refusal.the-variants.{Spent, Unallocated, Repeated, OffTotal, FalseOld, TableFull, Present, NurseryFull, TooLong, OutputFull, Broken}
+use Rattle.base.specs.declared.Refusal.the-variants.{Spent, Unallocated, Repeated, OffTotal, FalseOld, TableFull, Present, NurseryFull, TooLong, OutputFull, Broken, FewCells}
 use Rattle.rows.specs.Table.{rowsOf}
 use Rattle.counters.specs.declared.CounterTransition.{CounterTransition}
 use Rattle.counters.specs.Counts as counts
 use Rattle.counters.specs.Batch.{applyBatch}
 use Rattle.counters.specs.Layout.{transitionRow, batchOf}
-use Rattle.counters.specs.RefusalLaws.{ChangesUnallocated, NamesTwice, HasFalseOld, LeavesTotal, ExceedsTable}
-use Rattle.counters.specs.RefusalLaws.{allocate-spent, allocate-numbers, get-unallocated, get-numbers, batch-unallocated, batch-repeated, batch-false-old, batch-off-total, batch-table-full, batch-numbers}
+use Rattle.counters.specs.RefusalLaws.{ChangesUnallocated, NamesTwice, HasFalseOld, LeavesTotal, ExceedsTable, ExceedsCells}
+use Rattle.counters.specs.RefusalLaws.{allocate-spent, allocate-numbers, get-unallocated, get-numbers, batch-unallocated, batch-repeated, batch-false-old, batch-off-total, batch-table-full, batch-few, batch-numbers}
 use Rattle.snapshot.specs.Write.{snapshotBytes}
 use Rattle.cell_nursery.specs.Entries as entries
 use Rattle.cell_nursery.specs.Items.{Delta, deltaOf}
@@ -62,8 +62,8 @@ Unspelled (listing out) = ⊥
 -- the numbers that a call can be refused with
 abbrev pub numbersOf : Call → List ℕ
 numbersOf allocate = 1 ∷ []
-numbersOf (batch words) = 20 ∷ 2 ∷ 3 ∷ 5 ∷ 4 ∷ 6 ∷ []
-numbersOf (batchRecords ts) = 2 ∷ 3 ∷ 5 ∷ 4 ∷ 6 ∷ []
+numbersOf (batch words) = 20 ∷ 2 ∷ 3 ∷ 5 ∷ 4 ∷ 6 ∷ 25 ∷ []
+numbersOf (batchRecords ts) = 2 ∷ 3 ∷ 5 ∷ 4 ∷ 6 ∷ 25 ∷ []
 numbersOf (delta id wide inserts removes items) = 20 ∷ 14 ∷ 12 ∷ 13 ∷ []
 numbersOf (drain round out) = 15 ∷ []
 numbersOf (get idx) = 2 ∷ []
@@ -85,6 +85,8 @@ module _ (z : Sizes) (b : Box) (c : counts.State) (n : entries.State) where
         ↔ ((¬ ChangesUnallocated c ts) × (¬ NamesTwice ts) × (¬ HasFalseOld c ts) × LeavesTotal c ts)
     pub table-full : (step b x .0 ≡ Refused TableFull)
         ↔ ((¬ ChangesUnallocated c ts) × (¬ NamesTwice ts) × (¬ HasFalseOld c ts) × (¬ LeavesTotal c ts) × ExceedsTable c ts (z .counts / 2))
+    pub few-cells : (step b x .0 ≡ Refused FewCells)
+        ↔ ((¬ ChangesUnallocated c ts) × (¬ NamesTwice ts) × (¬ HasFalseOld c ts) × (¬ LeavesTotal c ts) × (¬ ExceedsTable c ts (z .counts / 2)) × ExceedsCells c ts)
 
   pub record DeltaRefusals (x : Call) (d : Delta) : Type 0 where
     pub too-long : (step b x .0 ≡ Refused TooLong) ↔ IsLong d
@@ -125,6 +127,7 @@ module _ {z : Sizes} {b : Box} {c : counts.State} {n : entries.State} (h : Holds
         false-old = says o said (batch-false-old (z .counts / 2) c ts);
         off-total = says o said (batch-off-total (z .counts / 2) c ts);
         table-full = says o said (batch-table-full (z .counts / 2) c ts);
+        few-cells = says o said (batch-few (z .counts / 2) c ts);
       }
 
   delta-refusals : (id : ℕ) (wide : Bool) (inserts removes : ℕ) (items : List ℕ) (d : Delta) → deltaOf (lengthWidth wide) inserts removes items ≡ some d
@@ -147,9 +150,9 @@ module _ {z : Sizes} {b : Box} {c : counts.State} {n : entries.State} (h : Holds
       go : (y : Call) → answerTo z c n y ≡ Refused q → elem (numberOf q) (numbersOf y) ≡ true
       go allocate p = says-numbers (1 ∷ []) (counts.allocate (c .next)) refl (allocate-numbers (c .next)) q p
       go (batch words) p =
-          says-numbers (20 ∷ 2 ∷ 3 ∷ 5 ∷ 4 ∷ 6 ∷ []) (orRefuse Broken (batchOf words) >>= applyBatch (z .counts / 2) c) refl
-          (missing-numbers Broken (batchOf words) (applyBatch (z .counts / 2) c) (2 ∷ 3 ∷ 5 ∷ 4 ∷ 6 ∷ []) (λ ts. batch-numbers (z .counts / 2) c ts)) q p
-      go (batchRecords ts) p = says-numbers (2 ∷ 3 ∷ 5 ∷ 4 ∷ 6 ∷ []) (applyBatch (z .counts / 2) c ts) refl (batch-numbers (z .counts / 2) c ts) q p
+          says-numbers (20 ∷ 2 ∷ 3 ∷ 5 ∷ 4 ∷ 6 ∷ 25 ∷ []) (orRefuse Broken (batchOf words) >>= applyBatch (z .counts / 2) c) refl
+          (missing-numbers Broken (batchOf words) (applyBatch (z .counts / 2) c) (2 ∷ 3 ∷ 5 ∷ 4 ∷ 6 ∷ 25 ∷ []) (λ ts. batch-numbers (z .counts / 2) c ts)) q p
+      go (batchRecords ts) p = says-numbers (2 ∷ 3 ∷ 5 ∷ 4 ∷ 6 ∷ 25 ∷ []) (applyBatch (z .counts / 2) c ts) refl (batch-numbers (z .counts / 2) c ts) q p
       go (delta id wide inserts removes items) p =
           let spelled = deltaOf (lengthWidth wide) inserts removes items in
           says-numbers (20 ∷ 14 ∷ 12 ∷ 13 ∷ []) (orRefuse Broken spelled >>= applyDelta (roomIn z) n) refl

@@ -86,6 +86,10 @@ pub record BoxLines : Type 0 where
   records : line 2 (batchRecords (move 1 0 3 ∷ move 0 0 1 ∷ [])) ≡ 0 ∷ 2 ∷ 2 ∷ []
   records-box : step (run box (take 2 calls)) (batchRecords (move 1 0 3 ∷ move 0 0 1 ∷ [])) .1 ≡ run box (take 3 calls)
   records-refused : line 3 (batchRecords (move 1 2 5 ∷ [])) ≡ 5 ∷ 2 ∷ 2 ∷ []
+  -- a count without a cell is refused by both, and the box is left as it is
+  unborn : line 2 (batch (1 ∷ 1 ∷ 5 ∷ [])) ≡ 25 ∷ 2 ∷ 0 ∷ []
+  unborn-records : line 2 (batchRecords (move 1 1 5 ∷ [])) ≡ 25 ∷ 2 ∷ 0 ∷ []
+  unborn-box : step (run box (take 2 calls)) (batch (1 ∷ 1 ∷ 5 ∷ [])) .1 ≡ run box (take 2 calls)
   -- the loan moves the threshold and nothing else: it doubles, and after a good save it is as at the start
   adjust-doubled : run box (adjust 0 ∷ []) .counters .maintenance .«min_alive_removed_before_shrink» ≡ 262144
   adjust-back : run box (adjust 0 ∷ adjust 1048576 ∷ []) ≡ box
@@ -159,6 +163,9 @@ box-lines =
       records = refl;
       records-box = refl;
       records-refused = refl;
+      unborn = refl;
+      unborn-records = refl;
+      unborn-box = refl;
       adjust-doubled = refl;
       adjust-back = refl;
       measure-taken = refl;
