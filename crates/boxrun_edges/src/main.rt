@@ -53,6 +53,10 @@ fn main() {
         b"257 entries, 256 entries, one more byte of cells than fits",
         b"full",
     );
+    edge(
+        b"a count at an index that was never born, and with its birth",
+        b"few_cells",
+    );
     edge(b"document 01's run", b"document_01");
     let mut short = [0u8; 40];
     run(

@@ -10,6 +10,7 @@ use counters_abi::selvaigo_alloc_idx;
 use counters_abi::selvaigo_get;
 use counters_abi::selvaigo_new;
 use reading_abi::selvaigo_deserialize_trusted;
+use reading_abi::selvaigo_load_snapshot;
 use shrink_abi::selvaigo_shrink_if_needed;
 use snapshot_abi::selvaigo_serialize;
 use snapshot_abi::selvaigo_serialized_len;
@@ -73,7 +74,18 @@ fn set(state: &mut [u64; 13], counts: &mut [u64; 8201], call: &[u8]) -> u8 {
     0
 }
 
-// Calls that may change the table.
+fn load_snapshot(
+    state: &mut [u64; 13],
+    counts: &mut [u64; 8201],
+    snapshot: &[u8],
+    out: &mut [u8],
+) -> usize {
+    let mut old_total = [7u64; 1];
+    let number = selvaigo_load_snapshot(snapshot, state, counts, &mut old_total);
+    put_one(out, number, &old_total)
+}
+
+// Calls that may change the table, and give a number alone.
 fn change(kind: u8, state: &mut [u64; 13], counts: &mut [u64; 8201], call: &[u8]) -> u8 {
     match kind {
         1 => selvaigo_new(word(call, 0), state, counts),
@@ -149,6 +161,7 @@ pub(crate) fn answer(
         1..=4 => put_byte(out, 0, change(kind, state, counts, call)),
         5 => alloc_idx(state, out),
         6 => put_byte(out, 0, shrink(state, counts, word(call, 0))),
+        12 => load_snapshot(state, counts, call, out),
         _ => read(kind, state, counts, call, out),
     }
 }

@@ -13,6 +13,7 @@
 // | 09 | | 0, record and table, as 04 takes them |
 // | 0a | | 0, the counters' record |
 // | 0b | length of the snapshot | number, length |
+// | 0c | snapshot to load | number, live total that it has |
 mod calls;
 
 use call_lists::answers::NONE;
@@ -77,4 +78,5 @@ fn main() {
     list(b"worked");
     list(b"snapshots");
     list(b"edges");
+    list(b"cells");
 }

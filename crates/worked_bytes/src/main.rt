@@ -67,7 +67,7 @@ fn adjust(m: CounterMaintenance, bytes_saved: u64) -> CounterMaintenance {
 }
 
 // Index 3 of 4 from nothing to 2, 256, 257 and 1, each beside a transition that is dropped though its index isn't allocated; then batches that are
-// refused, with two births accepted in between.
+// refused, with births, deaths and counts accepted in between: `few` and `fewer` would leave more counts than cells, `even` and `whole` just as many.
 fn batches() -> Counters {
     let mut t = [0u64; 4];
     let c = counter_table::new(NextIdx(4), &mut t);
@@ -80,9 +80,13 @@ fn batches() -> Counters {
     let again = batch(far, &mut t, transition(0, 0, 2), transition(0, 0, 3));
     let untrue = batch(again, &mut t, transition(0, 0, 2), transition(1, 2, 3));
     let spent = batch(untrue, &mut t, transition(2, 1, 0), transition(1, 1, 0));
-    let born = batch(spent, &mut t, transition(1, 0, 3), transition(0, 0, 1));
+    let few = batch(spent, &mut t, transition(2, 1, 2), transition(1, 1, 2));
+    let born = batch(few, &mut t, transition(1, 0, 3), transition(0, 0, 1));
     let full = batch(born, &mut t, transition(2, 0, 2), transition(3, 1, 2));
-    full
+    let even = batch(full, &mut t, transition(2, 1, 0), transition(3, 1, 0));
+    let fewer = batch(even, &mut t, transition(2, 1, 0), dropped);
+    let whole = batch(fewer, &mut t, transition(2, 1, 2), transition(3, 0, 1));
+    whole
 }
 
 fn main() {
