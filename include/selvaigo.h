@@ -20,10 +20,12 @@
  *   waiting  5 words for each of them
  *   cells    a byte for each byte of their cells
  *
+ * A state of the counters never has more stored counts than its live total.
+ *
  * A record and tables that hold no state in that layout are SELVAIGO_BROKEN, before all else. The check is a pass over the tables
- * that the call is lent, and a look-up in the entries for each waiting row. A caller that lets nothing but these calls write its
- * records and tables may use the forms named .._held, which don't test it. Over a record and tables that hold no state these
- * promise nothing, not even to stay within them. */
+ * that the call is lent, and a look-up in the entries for each waiting row; allocation is lent no table and checks nothing. A caller
+ * that lets nothing but these calls write its records and tables may use the forms named .._held, which don't test it. Over a record
+ * and tables that hold no state these promise nothing, not even to stay within them. */
 #ifndef SELVAIGO_H
 #define SELVAIGO_H
 
@@ -63,7 +65,9 @@ enum {
     SELVAIGO_MISFIT = 19,        /* a stated length under 16, or items that run past it */
     SELVAIGO_BROKEN = 20,        /* what is lent isn't in the layout */
     SELVAIGO_DAMAGED = 21,       /* a record of a journal is refused with another number than 16 */
-    SELVAIGO_LEFTOVER = 22       /* bytes of a record's payload are left over after its last item */
+    SELVAIGO_LEFTOVER = 22,      /* bytes of a record's payload are left over after its last item */
+    /* No call answers 23 or 24. */
+    SELVAIGO_FEW_CELLS = 25      /* fewer cells than counts: stored counts after the call exceed the live total */
 };
 
 /* ---- Counters ---- */
@@ -80,7 +84,9 @@ uint8_t selvaigo_get(const uint64_t state[SELVAIGO_STATE], const uint64_t *count
 uint8_t selvaigo_get_held(const uint64_t state[SELVAIGO_STATE], const uint64_t *counts, size_t counts_len, uint64_t idx,
                           uint64_t count[1]);
 
-/* A batch of transitions, three words each: index, old count, new count. Writes state and counts, all of it or nothing. */
+/* A batch of transitions, three words each: index, old count, new count. Writes state and counts, all of it or nothing. Refused with
+ * 2, 3, 5, 4, 6, whichever is met first in this order; then, if the whole batch would leave more stored counts than the live total that it
+ * leaves, with SELVAIGO_FEW_CELLS. */
 uint8_t selvaigo_apply_batch(uint64_t state[SELVAIGO_STATE], uint64_t *counts, size_t counts_len, const uint64_t *batch,
                              size_t batch_len);
 uint8_t selvaigo_apply_batch_held(uint64_t state[SELVAIGO_STATE], uint64_t *counts, size_t counts_len, const uint64_t *batch,
@@ -111,9 +117,17 @@ uint8_t selvaigo_serialize(const uint64_t state[SELVAIGO_STATE], const uint64_t 
 uint8_t selvaigo_serialize_held(const uint64_t state[SELVAIGO_STATE], const uint64_t *counts, size_t counts_len, uint8_t *out,
                                 size_t out_len, uint64_t len[1]);
 
-/* The counters that a snapshot holds: writes state and counts, whatever was in them. A refusal changes neither. */
+/* The counters that a snapshot holds: writes state and counts, whatever was in them. A refusal changes neither. The last one, after 7 to
+ * 11 and 6, is SELVAIGO_FEW_CELLS: the snapshot has more counts than its live total. */
 uint8_t selvaigo_deserialize_trusted(const uint8_t *snapshot, size_t snapshot_len, uint64_t state[SELVAIGO_STATE],
                                      uint64_t *counts, size_t counts_len);
+
+/* The same for a snapshot of the time when counts were not held against the live total: it is refused with all that reading is refused
+ * with but SELVAIGO_FEW_CELLS; instead a live total below the number of counts, each index counted once, is raised to that number.
+ * Writes state and counts, whatever was in them, and old_total[0]: the live total that the snapshot has, 0 beside a refusal. Where it
+ * equals state[1], nothing was raised, and reading gives the same. The snapshot of what was loaded is read by the call above. */
+uint8_t selvaigo_load_snapshot(const uint8_t *snapshot, size_t snapshot_len, uint64_t state[SELVAIGO_STATE], uint64_t *counts,
+                               size_t counts_len, uint64_t old_total[1]);
 
 /* ---- Nursery ---- */
 

@@ -96,7 +96,8 @@ pub fn adjust_shrink_threshold(min_alive_removed_before_shrink: u64, bytes_saved
     unsafe { sys::selvaigo_adjust_shrink_threshold(min_alive_removed_before_shrink, bytes_saved) }
 }
 
-/// Counts of references, by index, in a table that they own. Nothing but the port writes it, so no call checks it.
+/// Counts of references, by index, in a table that they own. Nothing but the port writes it, so no call checks it. There are never more stored
+/// counts than the live total says: see [`Refusal::FewCells`].
 #[derive(Clone)]
 pub struct Counters {
     state: [u64; sys::STATE],
@@ -112,25 +113,70 @@ impl Counters {
     ///
     /// Where that is more than a slice can have.
     pub fn new(next_idx: NextIdx, room: usize) -> Self {
-        let mut counters = Self { state: [0; sys::STATE], counts: vec![0; words(room, 2)].into() };
+        let mut counters = Self::unread(room);
         let Self { state, counts } = &mut counters;
         raw::new(next_idx, state, counts);
         counters
     }
 
-    /// The counters that a snapshot holds, with room for so many counts above 1.
+    /// The counters that a snapshot holds, with room for so many counts above 1. The last of the refusals is [`Refusal::FewCells`]: the snapshot has
+    /// more counts than its live total. [`Counters::load_snapshot`] takes such a one.
     ///
     /// # Panics
     ///
-    /// Where that is more than a slice can have.
+    /// Where the room is more than a slice can have.
     pub fn deserialize_trusted(snapshot: &[u8], room: usize) -> Result<Self, Refusal> {
-        let mut counters = Self { state: [0; sys::STATE], counts: vec![0; words(room, 2)].into() };
+        let mut counters = Self::unread(room);
         let Self { state, counts } = &mut counters;
         raw::deserialize_trusted(snapshot, state, counts)?;
         Ok(counters)
     }
 
-    /// The counters of a record and a table of docs/LAYOUT.md, where these hold a state.
+    /// The counters of a snapshot from the time when counts were not held against the live total, with room for so many counts above 1: a live
+    /// total below the number of counts is raised to it, and all else is read as by [`Counters::deserialize_trusted`], with the same refusals but
+    /// [`Refusal::FewCells`]. A snapshot with a total that is enough keeps it.
+    ///
+    /// It is for loading such a snapshot once: what is serialized then is read as any other.
+    ///
+    /// ```
+    /// use selvaigo::{Counters, NodeBox, Refusal, Room};
+    ///
+    /// # use selvaigo::{CounterTransition, Idx, NextIdx};
+    /// # let mut counters = Counters::new(NextIdx::new(2), 8);
+    /// # counters.apply_batch(&[CounterTransition { idx: Idx::new(0), old_raw: 0, new_raw: 5 }])?;
+    /// # let mut old = counters.serialize();
+    /// # old[9..17].fill(0);
+    /// # let journal = [];
+    /// // `old` has a count, and the live total 0.
+    /// let room = Room { counts: 1_024, entries: 256, cell_bytes: 16_384 };
+    /// assert_eq!(Counters::deserialize_trusted(&old, room.counts).unwrap_err(), Refusal::FewCells);
+    ///
+    /// let loaded = Counters::load_snapshot(&old, room.counts)?;
+    /// assert_eq!((loaded.old_total, loaded.counters.live_cells()), (0, 1));
+    /// let new = loaded.counters.serialize();
+    ///
+    /// // From here on `new` stands for `old`.
+    /// let restored = NodeBox::restore(&new, &journal, room)?;
+    /// assert_eq!(restored.node_box.counters.live_cells(), 1);
+    /// # Ok::<(), Box<dyn std::error::Error>>(())
+    /// ```
+    ///
+    /// # Panics
+    ///
+    /// Where the room is more than a slice can have.
+    pub fn load_snapshot(snapshot: &[u8], room: usize) -> Result<Loaded, Refusal> {
+        let mut counters = Self::unread(room);
+        let Self { state, counts } = &mut counters;
+        let old_total = raw::load_snapshot(snapshot, state, counts)?;
+        Ok(Loaded { counters, old_total })
+    }
+
+    // A record and a table for a call that writes both.
+    fn unread(room: usize) -> Self {
+        Self { state: [0; sys::STATE], counts: vec![0; words(room, 2)].into() }
+    }
+
+    /// The counters of a record and a table of docs/LAYOUT.md, where these hold a state; else they are refused with [`Refusal::Broken`].
     pub fn from_parts(state: [u64; sys::STATE], counts: Box<[u64]>) -> Result<Self, Refusal> {
         let mut counters = Self { state, counts };
         let Self { state, counts } = &mut counters;
@@ -159,7 +205,7 @@ impl Counters {
         NextIdx(self.state[0])
     }
 
-    /// The live total.
+    /// The live total. It is at least [`Counters::stored`].
     pub fn live_cells(&self) -> u64 {
         self.state[1]
     }
@@ -206,7 +252,8 @@ impl Counters {
         CounterBatch { counters: self, transitions: Vec::new() }
     }
 
-    /// A batch: all of it or nothing. Right after it was accepted, its transitions with old and new exchanged, in any order, take it back:
+    /// A batch: all of it or nothing. After all other refusals comes [`Refusal::FewCells`]: the whole of it would leave more stored counts than the
+    /// live total that it leaves. Right after it was accepted, its transitions with old and new exchanged, in any order, take it back:
     /// they are accepted, and the snapshot is the one from before.
     pub fn apply_batch(&mut self, batch: &[CounterTransition]) -> Result<(), Refusal> {
         // SAFETY: held, see above. A transition is three words with nothing between them, and there are as many as fit in memory.
@@ -269,6 +316,15 @@ impl Counters {
         })?;
         Ok(size(len[0]))
     }
+}
+
+/// Counters that [`Counters::load_snapshot`] loaded.
+#[derive(Debug, Clone)]
+pub struct Loaded {
+    /// The counters.
+    pub counters: Counters,
+    /// The live total that the snapshot has. It was raised where it is below [`Counters::live_cells`].
+    pub old_total: u64,
 }
 
 impl fmt::Debug for Counters {

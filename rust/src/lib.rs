@@ -38,8 +38,8 @@ pub use cell_nursery::{
     CellNursery, DeltaItems, HashBytes, NurseryDelta, NurseryEntryRecord, NurseryParts, PROMOTION_DELAY_ROUNDS, PromotedCell,
 };
 pub use counters::{
-    CounterBatch, CounterMaintenance, CounterTransition, Counters, Idx, NextIdx, RefCount, Shrunk, adjust_shrink_threshold,
-    should_shrink,
+    CounterBatch, CounterMaintenance, CounterTransition, Counters, Idx, Loaded, NextIdx, RefCount, Shrunk,
+    adjust_shrink_threshold, should_shrink,
 };
 pub use format::{DecodedRecord, EncodedRecord, HASH_LEN, RecordStats, decode_record, encode_items, encode_record, hash};
 pub use journal::{Converted, DamagedRecord, Dropped, JournalEnd, JournalScan, convert_journal, read_journal, scan_journal};

@@ -95,7 +95,8 @@ impl NodeBox {
     }
 
     /// A new box with the counters of a snapshot and the nursery of a journal. A snapshot may be refused, and a journal with a damaged record; else the
-    /// journal is read up to its end, the first record that is cut, or the first delta that is refused: [`Restored::journal`] says which.
+    /// journal is read up to its end, the first record that is cut, or the first delta that is refused: [`Restored::journal`] says which. A snapshot
+    /// that is refused with [`Refusal::FewCells`] is to be loaded once by [`Counters::load_snapshot`] and serialized again.
     ///
     /// # Panics
     ///

@@ -69,6 +69,17 @@ pub fn deserialize_trusted(snapshot: &[u8], state: &mut [u64; sys::STATE], count
     })
 }
 
+/// The same for a snapshot whose live total may be below its number of counts, as [`crate::Counters::load_snapshot`] says: the live total that
+/// the snapshot has.
+pub fn load_snapshot(snapshot: &[u8], state: &mut [u64; sys::STATE], counts: &mut [u64]) -> Result<u64, Refusal> {
+    let mut old_total = [0];
+    // SAFETY: slices and arrays, see above.
+    Refusal::of(unsafe {
+        sys::selvaigo_load_snapshot(snapshot.as_ptr(), snapshot.len(), state, counts.as_mut_ptr(), counts.len(), &mut old_total)
+    })?;
+    Ok(old_total[0])
+}
+
 /// An empty nursery, in a record and tables of any content.
 pub fn nursery_new(nursery: &mut [u64; sys::NURSERY], entries: &mut [u64], waiting: &mut [u64], cells: &mut [u8]) {
     // SAFETY: an array and slices, see above.

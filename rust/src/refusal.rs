@@ -13,9 +13,9 @@ macro_rules! refusals {
 
         impl Refusal {
             /// All of them, by number.
-            pub const ALL: [Refusal; 22] = [$(Refusal::$name),*];
+            pub const ALL: [Refusal; 23] = [$(Refusal::$name),*];
 
-            /// The refusal of that number; none has 0, which is no refusal, or a number above 22.
+            /// The refusal of that number; none has 0, which is no refusal, or 23 or 24, or a number above 25.
             pub const fn from_number(number: u8) -> Option<Refusal> {
                 match number {
                     $($number => Some(Refusal::$name),)*
@@ -78,6 +78,8 @@ refusals! {
     Damaged = 21, "damaged";
     /// Bytes of a record's payload are left over after its last item. It comes after the refusals 16 to 19.
     Leftover = 22, "leftover";
+    /// Fewer cells than counts: the stored counts after the call exceed the live total. It comes last, of a batch and of a snapshot.
+    FewCells = 25, "few cells";
 }
 
 impl Refusal {
@@ -86,7 +88,7 @@ impl Refusal {
         self as u8
     }
 
-    // What an answer means. The port gives no number above 22: another library was linked.
+    // What an answer means. The port gives no other number: another library was linked.
     pub(crate) fn of(answer: u8) -> Result<(), Refusal> {
         match answer {
             0 => Ok(()),

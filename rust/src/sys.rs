@@ -98,6 +98,15 @@ unsafe extern "C" {
         counts: *mut u64,
         counts_len: usize,
     ) -> u8;
+    /// The same for a snapshot whose live total may be too low, which is raised.
+    pub fn selvaigo_load_snapshot(
+        snapshot: *const u8,
+        snapshot_len: usize,
+        state: *mut [u64; STATE],
+        counts: *mut u64,
+        counts_len: usize,
+        old_total: *mut [u64; 1],
+    ) -> u8;
     /// An empty nursery.
     pub fn selvaigo_nursery_new(
         nursery: *mut [u64; NURSERY],

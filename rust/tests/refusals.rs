@@ -33,11 +33,11 @@ fn refused(batch: &[CounterTransition], room: usize) -> u8 {
     refusal.number()
 }
 
-// The number that a snapshot of that next index, first payload and rest is refused with.
-fn read(version: u8, next: u64, payload: &[u8], rest: &[u8], room: usize) -> u8 {
+// The number that a snapshot of that next index, live total, first payload and rest is refused with.
+fn read(version: u8, [next, live]: [u64; 2], payload: &[u8], rest: &[u8], room: usize) -> u8 {
     let mut snapshot = vec![version];
     snapshot.extend_from_slice(&next.to_le_bytes());
-    snapshot.extend_from_slice(&[0; 8]);
+    snapshot.extend_from_slice(&live.to_le_bytes());
     snapshot.extend_from_slice(&(payload.len() as u64).to_le_bytes());
     snapshot.extend_from_slice(payload);
     snapshot.extend_from_slice(&[vec![8], vec![0; 15]].concat().repeat(7));
@@ -61,12 +61,13 @@ fn record(len: u64, payload: &[u8]) -> Vec<u8> {
 
 #[test]
 fn numbers_and_words() {
-    for (at, refusal) in Refusal::ALL.into_iter().enumerate() {
-        assert_eq!(usize::from(refusal.number()), at + 1);
+    let numbers: Vec<u8> = (1..=22).chain([25]).collect();
+    assert_eq!(Refusal::ALL.map(Refusal::number), numbers[..]);
+    for refusal in Refusal::ALL {
         assert_eq!(Refusal::from_number(refusal.number()), Some(refusal));
         assert_eq!(refusal.to_string(), refusal.word());
     }
-    assert_eq!((Refusal::from_number(0), Refusal::from_number(23)), (None, None));
+    assert!((0..=u8::MAX).all(|number| Refusal::from_number(number).is_some() == numbers.contains(&number)));
     assert_eq!((Refusal::OffTotal.number(), Refusal::OffTotal.to_string().as_str()), (4, "off total"));
 }
 
@@ -86,14 +87,20 @@ fn the_counters_one_to_six() {
 #[test]
 fn snapshots_six_to_eleven() {
     let empty = [0; 8];
-    assert_eq!(read(1, 1, &empty, &large(0, 257), 0), 6);
-    assert_eq!(read(0, 0, &empty, &[], 0), 7);
+    assert_eq!(read(1, [1, 1], &empty, &large(0, 257), 0), 6);
+    assert_eq!(read(0, [0, 0], &empty, &[], 0), 7);
     assert_eq!(Counters::deserialize_trusted(&[], 0).unwrap_err().number(), 8);
     assert_eq!(Counters::deserialize_trusted(&[1; 16], 0).unwrap_err().number(), 8);
-    assert_eq!(read(1, 0, &[0; 9], &[], 0), 9);
-    assert_eq!(read(1, 1, &empty, &[0; 15], 1), 10);
-    assert_eq!(read(1, 1, &empty, &large(0, 256), 1), 10);
-    assert_eq!(read(1, 0, &empty, &large(0, 257), 1), 11);
+    assert_eq!(read(1, [0, 0], &[0; 9], &[], 0), 9);
+    assert_eq!(read(1, [1, 1], &empty, &[0; 15], 1), 10);
+    assert_eq!(read(1, [1, 1], &empty, &large(0, 256), 1), 10);
+    assert_eq!(read(1, [0, 1], &empty, &large(0, 257), 1), 11);
+}
+
+#[test]
+fn fewer_cells_than_counts_twenty_five() {
+    assert_eq!(refused(&[change(1, 1, 2)], 2), 25);
+    assert_eq!(read(1, [1, 0], &[0; 8], &large(0, 257), 1), 25);
 }
 
 #[test]
@@ -169,6 +176,9 @@ fn journals_twenty_one() {
 fn broken_tables() {
     let (state, mut counts) = counters(2).into_parts();
     assert!(Counters::from_parts(state, counts.clone()).is_ok());
+    let mut no_cell = state;
+    no_cell[1] = 0;
+    assert_eq!(Counters::from_parts(no_cell, counts.clone()).unwrap_err(), Refusal::Broken);
     counts[3] = 1;
     assert_eq!(raw::get(&state, &counts, Idx::new(0)), Err(Refusal::Broken));
     assert_eq!(raw::serialized_len(&state, &counts), Err(Refusal::Broken));
