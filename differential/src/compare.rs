@@ -7,7 +7,7 @@ use std::sync::Arc;
 
 use rayon::ThreadPool;
 
-use crate::definition::{self, Counters, Drained, Ended, Nursery, decode, parse};
+use crate::definition::{self, Counters, Drained, Ended, Nursery, decode, kept, parse};
 use crate::port::Port;
 use crate::roaring::{Broken, Bytes};
 use crate::steps::{Delta, Hash, Insert, KINDS, Room, Sizes, Step};
@@ -17,7 +17,9 @@ use crate::storage::shard_state::original::Original;
 #[derive(Clone, Default)]
 pub struct Tally {
     pub steps: [u64; KINDS.len()],
-    pub refused: [u64; 23],
+    pub refused: [u64; 26],
+    /// Snapshots that were loaded with the live total that they have, and with it raised.
+    pub loaded: [u64; 2],
     /// How journals were read, and the number that ended them or that the damaged record is refused with.
     pub journals: BTreeMap<(&'static str, u8), u64>,
     /// Journals that were converted, by whether they had leftovers and by the number that their records end with, leftovers or not.
@@ -43,6 +45,7 @@ impl Tally {
     pub fn add(&mut self, other: &Tally) {
         self.steps.iter_mut().zip(other.steps).for_each(|(a, b)| *a += b);
         self.refused.iter_mut().zip(other.refused).for_each(|(a, b)| *a += b);
+        self.loaded.iter_mut().zip(other.loaded).for_each(|(a, b)| *a += b);
         other.journals.iter().for_each(|(how, n)| *self.journals.entry(*how).or_default() += n);
         other.converted.iter().for_each(|(what, n)| *self.converted.entry(*what).or_default() += n);
         self.dropped += other.dropped;
@@ -75,6 +78,13 @@ pub struct Sides {
 }
 
 type Compared = Result<(), String>;
+
+/// What was loaded of a snapshot, and the live total that it has.
+struct Loaded {
+    defined: Counters,
+    port: selvaigo::Counters,
+    old_total: u64,
+}
 
 fn shown(value: &impl Debug) -> String {
     let mut text = format!("{value:?}");
@@ -247,8 +257,20 @@ impl Sides {
         let port = self.port.apply_batch(&told);
         if self.answered(port, wanted)? {
             self.original.apply_batch(batch);
+        } else if wanted == Err(25) {
+            self.few_cells(batch)?;
         }
         self.totals()
+    }
+
+    /// A batch that leaves fewer cells than counts: the original, asked on a copy, takes it.
+    fn few_cells(&mut self, batch: &[[u64; 3]]) -> Compared {
+        self.tally.know("C16, C17", "takes it");
+        let (wanted, kept) = (self.counters.with_few_cells(batch), kept(batch));
+        let (totals, counts) = self.original.with_few_cells(&kept);
+        same("original", "totals with few cells", &totals, &wanted.totals())?;
+        let wanted: Result<Vec<u64>, u8> = kept.iter().map(|t| wanted.get(t[0])).collect();
+        same("original", "counts with few cells", &Ok(counts), &wanted)
     }
 
     fn get(&mut self, idx: u64) -> Compared {
@@ -327,12 +349,17 @@ impl Sides {
         let port = self.port.deserialize_trusted(bytes);
         let wanted = read.as_ref().map(|_| ()).map_err(|e| e.0);
         self.answered(port, wanted)?;
+        let loaded = self.load(bytes)?;
         match read {
             Ok(counters) => {
                 same("original", "answer", &self.original.deserialize_trusted(bytes), &Ok(()))?;
                 self.counters = counters;
                 let (theirs, large) = self.original.serialize();
                 self.runs = sorted(&theirs, large) != self.counters.serialize();
+            }
+            Err((25, Broken::Tolerated(rule))) => {
+                self.tally.know(rule, "takes it");
+                self.go_on_loaded(bytes, loaded.ok_or("definition: 25 and nothing loaded")?)?;
             }
             Err((number, Broken::Refused)) => {
                 let said = self.original.deserialize_trusted(bytes).err().unwrap_or("taken".into());
@@ -348,6 +375,34 @@ impl Sides {
             }
         }
         self.totals()
+    }
+
+    /// Loading is what the definition says, refusals included: what it gives where it is taken.
+    fn load(&mut self, bytes: &[u8]) -> Result<Option<Loaded>, String> {
+        let wanted = Counters::load(bytes, self.sizes.counts / 2);
+        let port = self.port.load_snapshot(bytes);
+        let said = port.as_ref().map(|(c, old)| (*c.state(), *old)).map_err(|number| *number);
+        same("port", "loading", &said, &wanted.as_ref().map(|(c, old)| (c.totals(), *old)).map_err(|e| e.0))?;
+        let (Ok((port, _)), Ok((defined, old_total))) = (port, wanted) else { return Ok(None) };
+        same("port", "loaded counts", &port.iter().map(|(idx, n)| (idx.get(), n.get())).collect(), &defined.counts)?;
+        self.tally.loaded[usize::from(defined.live != old_total)] += 1;
+        Ok(Some(Loaded { defined, port, old_total }))
+    }
+
+    /// A snapshot with fewer cells than counts: the original takes it, with the old total and the same counts. From here on the port has
+    /// what it loaded, and the original reads what the port writes of that.
+    fn go_on_loaded(&mut self, bytes: &[u8], Loaded { defined, port, old_total }: Loaded) -> Compared {
+        same("original", "answer", &self.original.deserialize_trusted(bytes), &Ok(()))?;
+        let mut wanted = defined.totals();
+        wanted[1] = old_total;
+        same("original", "totals with few cells", &self.original.totals(), &wanted)?;
+        let (theirs, large) = self.original.serialize();
+        let theirs = Counters::parse(&sorted(&theirs, large), usize::MAX).map_err(|e| format!("original: no snapshot: {e:?}"))?;
+        same("original", "counts with few cells", &theirs.counts, &defined.counts)?;
+        let answer = self.original.deserialize_trusted(&port.serialize());
+        same("original", "answer to what was loaded", &answer, &Ok(()))?;
+        (self.counters, self.port.counters, self.runs) = (defined, port, false);
+        Ok(())
     }
 
     fn empty(&mut self) -> Compared {

@@ -1,4 +1,4 @@
-//! Document 01 in plain Rust, with P1 and P4 of document 02: what each call has to answer. The generator takes from it what keeps the callers' contract, and the
+//! Document 01 in plain Rust, with P1, P4 and P10 of document 02: what each call has to answer. The generator takes from it what keeps the callers' contract, and the
 //! comparison what the port has to say where the original panics or takes what it shouldn't.
 use std::collections::{BTreeMap, BTreeSet};
 
@@ -60,7 +60,8 @@ impl Counters {
         Ok(self.counts.get(&idx).copied().unwrap_or(1))
     }
 
-    fn judge(&self, kept: &[[u64; 3]], room: usize) -> Refused<u64> {
+    /// The live total and the number of stored counts after a batch, by document 01 alone.
+    fn judge(&self, kept: &[[u64; 3]], room: usize) -> Refused<(u64, u64)> {
         if kept.iter().any(|t| t[0] >= self.next) {
             return Err(2);
         }
@@ -77,16 +78,34 @@ impl Counters {
         let live = self.live.checked_add(births).and_then(|n| n.checked_sub(deaths)).ok_or(4u8)?;
         let fallen = kept.iter().filter(|t| t[1] > 1 && t[2] <= 1).count();
         let risen = kept.iter().filter(|t| t[1] <= 1 && t[2] > 1).count();
-        if self.counts.len() + risen - fallen > room {
+        let stored = self.counts.len() + risen - fallen;
+        if stored > room {
             return Err(6);
         }
-        Ok(live)
+        Ok((live, stored as u64))
     }
 
     pub fn apply_batch(&mut self, batch: &[[u64; 3]], room: usize) -> Refused<()> {
-        let kept: Vec<[u64; 3]> = batch.iter().filter(|t| t[1] != t[2]).copied().collect();
-        self.live = self.judge(&kept, room)?;
-        for [idx, old, new] in kept {
+        let kept = kept(batch);
+        let (live, stored) = self.judge(&kept, room)?;
+        if live < stored {
+            return Err(25);
+        }
+        self.change(&kept, live);
+        Ok(())
+    }
+
+    /// What a batch that is refused with 25 leaves by document 01 alone. So the original takes it.
+    pub fn with_few_cells(&self, batch: &[[u64; 3]]) -> Self {
+        let (mut c, kept) = (self.clone(), kept(batch));
+        let (live, _) = c.judge(&kept, usize::MAX).expect("no other refusal");
+        c.change(&kept, live);
+        c
+    }
+
+    fn change(&mut self, kept: &[[u64; 3]], live: u64) {
+        self.live = live;
+        for &[idx, old, new] in kept {
             self.set(idx, new);
             if old > 1 && new <= 1 {
                 self.figures[0] = self.figures[0].saturating_add(1);
@@ -96,7 +115,6 @@ impl Counters {
                 self.figures[bit + 1] = self.figures[bit + 1].saturating_add(cleared >> bit & 1);
             }
         }
-        Ok(())
     }
 
     fn set(&mut self, idx: u64, count: u64) {
@@ -146,8 +164,25 @@ impl Counters {
         out
     }
 
-    /// The counters of a snapshot; or the refusal's number, and for a bad bitmap the rule that it breaks.
+    /// The counters of a snapshot; or the refusal's number, and whether the original refuses it too.
     pub fn read(snapshot: &[u8], room: usize) -> Result<Self, (u8, Broken)> {
+        let c = Self::parse(snapshot, room)?;
+        if c.live < c.counts.len() as u64 {
+            return Err((25, Broken::Tolerated("S6")));
+        }
+        Ok(c)
+    }
+
+    /// The same for a snapshot with fewer cells than counts, whose live total is raised; and the one that it has.
+    pub fn load(snapshot: &[u8], room: usize) -> Result<(Self, u64), (u8, Broken)> {
+        let mut c = Self::parse(snapshot, room)?;
+        let old_total = c.live;
+        c.live = c.live.max(c.counts.len() as u64);
+        Ok((c, old_total))
+    }
+
+    /// By document 01 alone: the live total may be any. So the original reads.
+    pub fn parse(snapshot: &[u8], room: usize) -> Result<Self, (u8, Broken)> {
         let torn = (8, Broken::Refused);
         let mut s = Bytes(snapshot);
         match s.take(1) {
@@ -178,6 +213,11 @@ impl Counters {
         }
         Ok(c)
     }
+}
+
+/// The transitions of a batch that change something.
+pub fn kept(batch: &[[u64; 3]]) -> Vec<[u64; 3]> {
+    batch.iter().filter(|t| t[1] != t[2]).copied().collect()
 }
 
 fn read_large(rest: &[u8]) -> Option<BTreeMap<u64, u64>> {

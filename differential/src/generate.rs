@@ -60,6 +60,8 @@ pub struct Run {
     round: u32,
     longest_cell: u64,
     weights: [u64; 20],
+    /// Whether the live total stays near the number of counts.
+    tight: bool,
     /// Whether journals get more records behind them, and records leftovers.
     more: bool,
     /// Rounds and hashes that were inserted: the checked original panics where such a pair waits twice.
@@ -142,12 +144,13 @@ impl Run {
         let round = r.pick(&[0, 0, 1, 90, 99, 5_000, u32::MAX - 120, u32::MAX - 3]);
         let steps = if dense { 20 + r.size(40) } else { a_length(&mut r) };
         let longest_cell = if long_cells { 65_537 } else { 40 };
-        let spread = r.pick(&[2, 8, 64, 700]);
+        let (spread, tight) = (r.pick(&[2, 8, 64, 700]), r.chance(50));
         let mut weights = weights(&mut r);
         if dense {
             weights[10] *= 10;
         }
-        Run { sizes, steps, dense, bases, spread, hashes, round, longest_cell, weights, more: true, inserted: BTreeSet::new(), r }
+        let inserted = BTreeSet::new();
+        Run { sizes, steps, dense, bases, spread, hashes, round, longest_cell, weights, tight, more: true, inserted, r }
     }
 
     /// A run for the list that is kept: one small box.
@@ -235,19 +238,25 @@ impl Run {
             _ => 30 + self.r.size(300),
         };
         let full = c.counts.len() >= self.sizes.counts / 2;
+        let spare = c.live.saturating_sub(c.counts.len() as u64);
         let (mut batch, mut named, mut live) = (Vec::new(), BTreeSet::new(), c.live);
         for _ in 0..n {
             let idx = self.an_index(c, 0);
             if idx >= c.next || !named.insert(idx) {
                 continue;
             }
-            let old = c.counts.get(&idx).copied().unwrap_or(self.r.below(2));
+            // A cell that was born before, or one that is born here.
+            let born = self.r.below(if self.tight { spare.min(20) + 2 } else { 2 }).min(1);
+            let old = c.counts.get(&idx).copied().unwrap_or(born);
             let mut new = if full && self.r.chance(60) { self.r.below(2) } else { self.a_count() };
             if new == 0 && old != 0 && live == 0 {
                 new = 1;
             }
             live = live.saturating_add(u64::from(old == 0 && new != 0)) - u64::from(old != 0 && new == 0);
             batch.push([idx, old, new]);
+        }
+        if self.r.chance(85) {
+            bear(c, &mut batch);
         }
         if self.r.chance(30) {
             batch.sort_unstable();
@@ -324,8 +333,12 @@ impl Run {
     /// A snapshot in one of the forms that are read, or a damaged one.
     fn snapshot(&mut self, now: &Counters) -> Vec<u8> {
         let mut c = if self.r.chance(40) { now.clone() } else { self.some_counters() };
-        if self.r.chance(5) {
-            c.live = u64::MAX - self.r.below(3);
+        let stored = c.counts.len() as u64;
+        match self.r.below(100) {
+            0..5 => c.live = u64::MAX - self.r.below(3),
+            5..13 => c.live = self.r.below(stored),
+            13..20 => c.live = stored.saturating_sub(self.r.below(2)),
+            _ => {}
         }
         let mut large: Vec<[u64; 2]> = c.counts.iter().filter(|(_, n)| **n > 256).map(|(i, n)| [*i, *n]).collect();
         if self.r.chance(30) {
@@ -552,6 +565,17 @@ impl Run {
             _ => self.r.size(300),
         };
         self.r.bytes(n)
+    }
+}
+
+/// Births instead of cells that were born before, and lives instead of their deaths, until there are as many cells as counts.
+fn bear(c: &Counters, batch: &mut [[u64; 3]]) {
+    let count = |which: fn(&[u64; 3]) -> bool| batch.iter().filter(|t| t[1] != t[2] && which(t)).count() as u64;
+    let cells = c.live.saturating_add(count(|t| t[1] == 0)) - count(|t| t[2] == 0);
+    let counts = c.counts.len() as u64 + count(|t| t[1] <= 1 && t[2] > 1) - count(|t| t[1] > 1 && t[2] <= 1);
+    let unborn = batch.iter_mut().filter(|t| t[1] == 1 && t[2] != 1);
+    for t in unborn.take(counts.saturating_sub(cells) as usize) {
+        if t[2] == 0 { t[2] = 1 } else { t[1] = 0 }
     }
 }
 

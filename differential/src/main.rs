@@ -178,6 +178,8 @@ fn print(tally: &Tally, runs: u64, start: Instant) {
     for (number, n) in tally.refused.iter().enumerate().filter(|(_, n)| **n > 0) {
         println!("  {number:<14}{n:>12}");
     }
+    let [as_they_are, raised] = tally.loaded;
+    println!("snapshots loaded: {as_they_are} with the live total that they have, {raised} with it raised");
     println!("journals, with the number that ended them, or that their damaged record is refused with:");
     for ((how, number), n) in &tally.journals {
         println!("  {how:<34}{number:>2}{n:>12}");

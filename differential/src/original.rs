@@ -65,6 +65,22 @@ fn stats(s: &format::RecordStats) -> Stats {
     [s.payload_bytes, s.metadata_bytes, s.cell_bytes, s.insert_ops, s.remove_ops]
 }
 
+fn totals(c: &Counters) -> Totals {
+    let mut all = [0; 13];
+    all[..3].copy_from_slice(&[c.next_idx.get(), inside::live(c), inside::stored(c)]);
+    all[3..].copy_from_slice(&inside::figures(c));
+    all
+}
+
+fn apply_batch(c: &mut Counters, transitions: &[[u64; 3]]) {
+    let mut batch = c.begin();
+    batch.reserve(transitions.len());
+    for [idx, old, new] in transitions {
+        batch.update_raw(Idx::new(*idx), *old, *new);
+    }
+    batch.apply();
+}
+
 impl Original {
     pub fn new(next: u64, stripes: usize, pool: Arc<ThreadPool>) -> Self {
         let stripes = NonZeroUsize::new(stripes).unwrap();
@@ -82,11 +98,7 @@ impl Original {
     }
 
     pub fn totals(&self) -> Totals {
-        let c = &self.counters;
-        let mut all = [0; 13];
-        all[..3].copy_from_slice(&[c.next_idx.get(), inside::live(c), inside::stored(c)]);
-        all[3..].copy_from_slice(&inside::figures(c));
-        all
+        totals(&self.counters)
     }
 
     pub fn alloc_idx(&mut self) -> u64 {
@@ -94,12 +106,14 @@ impl Original {
     }
 
     pub fn apply_batch(&mut self, transitions: &[[u64; 3]]) {
-        let mut batch = self.counters.begin();
-        batch.reserve(transitions.len());
-        for [idx, old, new] in transitions {
-            batch.update_raw(Idx::new(*idx), *old, *new);
-        }
-        batch.apply();
+        apply_batch(&mut self.counters, transitions);
+    }
+
+    /// What a batch that the port refuses with 25 leaves, applied to a copy: the totals, and the counts at its indices.
+    pub fn with_few_cells(&self, transitions: &[[u64; 3]]) -> (Totals, Vec<u64>) {
+        let mut c = self.counters.clone();
+        apply_batch(&mut c, transitions);
+        (totals(&c), transitions.iter().map(|t| c.get(Idx::new(t[0]))).collect())
     }
 
     pub fn get(&self, idx: u64) -> u64 {

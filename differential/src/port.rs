@@ -160,6 +160,19 @@ impl Port {
         })
     }
 
+    /// The counters that are loaded into a table of any content, and the old total. A refusal leaves the words as they are, and beside it the total is 0.
+    pub fn load_snapshot(&self, snapshot: &[u8]) -> Refused<(Counters, u64)> {
+        let (mut state, mut counts) = ([7; 13], vec![7; self.counters.counts().len()]);
+        let answer = raw::load_snapshot(snapshot, &mut state, &mut counts);
+        if let Err(refusal) = answer {
+            let zero = load_values(snapshot, &mut state, &mut counts) == (refusal.number(), [0]);
+            assert!(zero, "the port's total beside a refused snapshot isn't 0");
+            assert!(state == [7; 13] && counts.iter().all(|w| *w == 7), "a refused snapshot changes the port's tables");
+        }
+        let old_total = number(answer)?;
+        Ok((Counters::from_parts(state, counts.into()).expect("a state after loading"), old_total))
+    }
+
     pub fn new_nursery(&mut self, sizes: &Sizes) {
         self.nursery = Self::empty(sizes);
     }
@@ -254,6 +267,16 @@ impl Port {
         }
         Ok(((end.applied as usize, end.place, end.refusal.map_or(0, Refusal::number)), out))
     }
+}
+
+/// The answer to a snapshot that is loaded, and the total beside it, as they come.
+fn load_values(snapshot: &[u8], state: &mut [u64; 13], counts: &mut [u64]) -> (u8, [u64; 1]) {
+    let mut old_total = [7];
+    // SAFETY: slices and arrays, none of which overlaps another.
+    let answer = unsafe {
+        sys::selvaigo_load_snapshot(snapshot.as_ptr(), snapshot.len(), state, counts.as_mut_ptr(), counts.len(), &mut old_total)
+    };
+    (answer, old_total)
 }
 
 /// The answer to a journal, and the values beside it, as they come.

@@ -53,7 +53,7 @@ pub enum Step {
     Snapshot(Room),
     /// The port goes on from the original's snapshot, the original from the port's.
     ReadBack,
-    /// Both read these bytes; where they are taken they are the new state.
+    /// Both read these bytes; where they are taken they are the new state. With fewer cells than counts it is what the port loads of them.
     Read(Vec<u8>),
     /// An empty nursery.
     Empty,
