@@ -3,7 +3,7 @@ use std::hint::black_box;
 use std::sync::Arc;
 
 use rayon::ThreadPool;
-use selvaigo::{CounterTransition, raw};
+use selvaigo::{CounterTransition, Refusal, raw};
 
 use super::super::counters::{Counters, Idx, NextIdx};
 use super::{mixed, with_commas};
@@ -92,6 +92,13 @@ fn snapshot_write(run: &Run, pool: &Arc<ThreadPool>, name: &str, n: u64, step: u
     assert!(out == again, "the two forms differ");
 }
 
+// The port's call on a snapshot: reading, or loading.
+type Reads = fn(&[u8], &mut [u64; 13], &mut [u64]) -> Result<(), Refusal>;
+
+fn loads(snapshot: &[u8], state: &mut [u64; 13], counts: &mut [u64]) -> Result<(), Refusal> {
+    raw::load_snapshot(snapshot, state, counts).map(|_| ())
+}
+
 fn snapshot_read(run: &Run, pool: &Arc<ThreadPool>, name: &str, n: u64, step: u64) {
     let what = format!("snapshot read, {} counts, {name}", with_commas(n));
     if !run.wanted(&what) {
@@ -101,11 +108,16 @@ fn snapshot_read(run: &Run, pool: &Arc<ThreadPool>, name: &str, n: u64, step: u6
     let in_no_order = original.serialize();
     let mut back = Counters::deserialize_trusted(&in_no_order, pool.clone()).unwrap();
     let ascending = same_snapshot(&mut back, &port);
-    for (order, bytes) in [("", ascending), (", large in no order", in_no_order)] {
+    // The live total 0, which loading raises to what it was.
+    let mut no_cells = ascending.clone();
+    no_cells[9..17].fill(0);
+    let read: Reads = raw::deserialize_trusted;
+    let lines = [("", ascending, read), (", large in no order", in_no_order, read), (", loaded", no_cells, loads as Reads)];
+    for (how, bytes, reads) in lines {
         let (mut state, mut table) = ([0; 13], vec![1; port.counts().len()]);
-        let ours = side(1, || black_box(raw::deserialize_trusted(&bytes, &mut state, &mut table)).unwrap());
+        let ours = side(1, || black_box(reads(&bytes, &mut state, &mut table)).unwrap());
         let theirs = side(1, || drop(black_box(Counters::deserialize_trusted(&bytes, pool.clone()).unwrap())));
-        run.line(&format!("{what}{order}"), [ours, theirs]);
+        run.line(&format!("{what}{how}"), [ours, theirs]);
         assert!(&state == port.state() && table == port.counts(), "the port reads another state");
     }
 }
@@ -132,7 +144,7 @@ fn get(run: &Run, pool: &Arc<ThreadPool>, n: u64) {
     );
 }
 
-// A batch in no order and the batch that takes it back: half of it changes stored counts and half brings new ones.
+// A batch in no order and the batch that takes it back: half of it changes stored counts and half bears cells with new ones.
 fn there_and_back(n: u64, m: u64) -> [Vec<CounterTransition>; 2] {
     let changes = n.min(m / 2);
     let rises = m - changes;
@@ -140,7 +152,7 @@ fn there_and_back(n: u64, m: u64) -> [Vec<CounterTransition>; 2] {
     let mut there: Vec<CounterTransition> = (0..changes)
         .map(|k| k * (n / changes))
         .map(|i| change(i * 100, count_of(i), count_of(i) % 256 + 2))
-        .chain((0..rises).map(|k| change(k * (n * 100 / rises) | 1, 1, 2 + k % 300)))
+        .chain((0..rises).map(|k| change(k * (n * 100 / rises) | 1, 0, 2 + k % 300)))
         .collect();
     there.sort_by_key(|t| mixed(t.idx.get()));
     let back = there.iter().map(|t| change(t.idx.get(), t.new_raw, t.old_raw)).collect();
