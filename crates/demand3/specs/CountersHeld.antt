@@ -22,7 +22,7 @@ use Rattle.counters.specs.WordLaws.{words-batch}
 use Rattle.counters.specs.Calls.{laid, laidOut, newCall, allocCall, batchCall, decided, shrinkCall}
 use Rattle.counters.specs.CallLaws.{new-state, alloc-taken, alloc-state, batch-held, batch-accepted, shrink-held, shrink-state}
 use Rattle.counters.specs.RefusalLaws.{taken-state, taken-fits}
-use Rattle.snapshot_laws.specs.RoundTrip.{WellFormed}
+use Rattle.snapshot_laws.specs.RoundTrip.{WellFormed, well-maintained}
 use Rattle.snapshot_laws.specs.WellFormedLaws.{new-well-formed, alloc-well-formed, batch-well-formed, shrink-well-formed}
 use Rattle.node_box.specs.Box.{allocate, batch, batchRecords, shrink, adjust}
 use Rattle.demand3.specs.States.{countersAfter}
@@ -38,7 +38,7 @@ pub record CountersHeld (len : ℕ) (c : Counters) (t : List ℕ) (s : State) : 
 
 module _ {len : ℕ} {c : Counters} {t : List ℕ} {s : State} (h : CountersHeld len c t s) where
   pub counters-hold : holds c t ≡ true
-  counters-hold = rw (h .same-record, h .same-table) (holds-laid s len (omega (arith, h .fits)) (h .well .sorted) (h .well .bounded))
+  counters-hold = rw (h .same-record, h .same-table) (holds-laid s len (omega (arith, h .fits)) (h .well .spelled .sorted) (h .well .bounded))
 
   pub counters-state : stateOf c t ≡ s
   counters-state = rw (h .same-record, h .same-table) (stateOf-laid s len (omega (arith, h .fits)))
@@ -95,12 +95,11 @@ module _ {len : ℕ} {c : Counters} {t : List ℕ} {s : State} (h : CountersHeld
   pub adjust-held-after : (saved : ℕ) → CountersHeld len (withMaintenance c (adjusted standard saved (c .maintenance))) t (countersAfter (adjust saved) s)
   unfolding countersAfter withMaintenance recordOf tableOf
   adjust-held-after saved =
-      let w = h .well in
       record {
         same-record = ap (λ (d : Counters). withMaintenance d (adjusted standard saved (d .maintenance))) (h .same-record);
         same-table = h .same-table;
         fits = h .fits;
-        well = record { next-fits = w .next-fits; live-fits = w .live-fits; sorted = w .sorted; bounded = w .bounded; counts-fit = w .counts-fit };
+        well = well-maintained s (adjusted standard saved (s .maintenance)) (h .well);
       }
 
   -- ---- shrinking

@@ -12,7 +12,7 @@ use Rattle.counters.specs.Counts as counts
 use Rattle.counters.specs.Maintenance.{standard}
 use Rattle.counters.specs.Calls as counters-calls
 use Rattle.snapshot.specs.Calls.{deserializeCall}
-use Rattle.snapshot_laws.specs.RoundTrip.{renewed, snapshot-same}
+use Rattle.snapshot_laws.specs.RoundTrip.{well-maintained, renewed, snapshot-same}
 use Rattle.snapshot_laws.specs.CallLaws.{deserialize-written}
 use Rattle.cell_nursery.specs.Entries as entries
 use Rattle.cell_nursery.specs.Entries.{empty}
@@ -123,10 +123,8 @@ module _ (a : History) (ok : Typed a) (k : ℕ) (short : k ≤ length (journalOf
     counters-held : CountersHeld (length t) (box .counters) (box .counts) renewedCounters
     unfolding readBack rebuild
     counters-held =
-        let w = was-held .well in
         subst (λ (r : counters-calls.Changed). CountersHeld (length t) (r .result .counters) (r .table) renewedCounters) (sym counters-read)
-        (laid-counters (length t) renewedCounters (rw lt (was-held .fits))
-        (record { next-fits = w .next-fits; live-fits = w .live-fits; sorted = w .sorted; bounded = w .bounded; counts-fit = w .counts-fit }))
+        (laid-counters (length t) renewedCounters (rw lt (was-held .fits)) (well-maintained counters (counts.freshMaintenance (standard .base)) (was-held .well)))
 
     nursery-held : NurseryHeld (length es) (length ws) (length cs) (box .nursery) (box .entries) (box .waiting) (box .cells) state
     unfolding readBack rebuild readOut

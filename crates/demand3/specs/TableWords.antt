@@ -100,8 +100,8 @@ table-words c len es a =
 pub counts-table : (len : ℕ) (s : counts.State) → snapshots.WellFormed s → AllU64 (counters.tableOf len s)
 unfolding counters.tableOf ordered
 counts-table len s w =
-    let sounds = and-right (ascending (map (λ e. e .idx) (s .counts))) (all (sound (s .next)) (s .counts)) (w .sorted) in
-    table-words countRow len (s .counts) (counts-words (s .next) (s .counts) (w .next-fits) sounds (w .counts-fit))
+    let sounds = and-right (ascending (map (λ e. e .idx) (s .counts))) (all (sound (s .next)) (s .counts)) (w .spelled .sorted) in
+    table-words countRow len (s .counts) (counts-words (s .next) (s .counts) (w .spelled .next-fits) sounds (w .spelled .counts-fit))
 
 pub entries-table : (len : ℕ) (s : State) → WellFormed s → cellBytes (s .entries) < 2 ^ 64 → AllU64 (entriesTable len s)
 unfolding entriesTable

@@ -56,10 +56,7 @@ module _ (c : Counters) (t : List ℕ) (h : holds c t ≡ true) where
   unfolding stateOf
   held-well-formed n l a =
       record {
-        next-fits = n;
-        live-fits = l;
-        sorted = held c t h .sorted;
-        counts-fit = rows-pass (λ w. ltb w (2 ^ 64)) (c .stored) t refl a;
+        spelled = record { next-fits = n; live-fits = l; sorted = held c t h .sorted; counts-fit = rows-pass (λ w. ltb w (2 ^ 64)) (c .stored) t refl a };
         bounded = rw (length-rowsOf countRow (c .stored) t) (held c t h .bounded);
       }
 
@@ -177,7 +174,7 @@ module _ (base : ℕ) (s : State) (w : WellFormed s) (t : List ℕ) (room : leng
 
   pub deserialize-holds : holds (deserializeCall base (snapshotBytes s) t .result .counters) (deserializeCall base (snapshotBytes s) t .table) ≡ true
   unfolding laid
-  deserialize-holds = rw deserialize-written (holds-laid (renewed base s) (length t) (omega arith) (w .sorted) (w .bounded))
+  deserialize-holds = rw deserialize-written (holds-laid (renewed base s) (length t) (omega arith) (w .spelled .sorted) (w .bounded))
 
   pub deserialize-length : length (deserializeCall base (snapshotBytes s) t .table) ≡ length t
   unfolding laid

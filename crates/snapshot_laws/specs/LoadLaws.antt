@@ -61,10 +61,13 @@ raised-well-formed s w =
     let below = all-map (λ i. ltb i (s .next)) index (s .counts) ∙ all-below (s .next) (s .counts) (w .sorted) in
     let few = ascending-length 0 (s .next) (map index (s .counts)) (omega arith) (ascends (s .next) (s .counts) (w .sorted)) below in
     record {
-      next-fits = w .next-fits;
-      live-fits = omega (arith, few, length-map (s .counts) index, w .next-fits, w .live-fits);
-      sorted = w .sorted;
-      counts-fit = w .counts-fit;
+      spelled =
+          record {
+            next-fits = w .next-fits;
+            live-fits = omega (arith, few, length-map (s .counts) index, w .next-fits, w .live-fits);
+            sorted = w .sorted;
+            counts-fit = w .counts-fit;
+          };
       bounded = omega arith;
     }
 

@@ -178,5 +178,4 @@ module _ (base room : ℕ) (bs : List ℕ) (s : State) (ok : readSnapshot base r
 
   pub read-well-formed : all (λ b. ltb b 256) bs ≡ true → WellFormed s
   read-well-formed a =
-      let w = parse-spelled base room bs s (read-parsed base room bs s ok) a in
-      record { next-fits = w .next-fits; live-fits = w .live-fits; sorted = w .sorted; counts-fit = w .counts-fit; bounded = read-bounded base room bs s ok }
+      record { spelled = parse-spelled base room bs s (read-parsed base room bs s ok) a; bounded = read-bounded base room bs s ok }

@@ -16,6 +16,7 @@ use Rattle.base.specs.ListLaws.{all-weaker, all-keep, all-kept}
 use Rattle.base.specs.Bytes.{le64}
 use Rattle.base.specs.Answers.{taken}
 use Rattle.base.specs.OutcomeLaws.{taken-same}
+use Rattle.counters.specs.declared.CounterMaintenance.{CounterMaintenance}
 use Rattle.counters.specs.Counts.{Entry, State, storedAt, countAt, smallCode, large, freshMaintenance}
 use Rattle.counters.specs.Layout.{sound, ordered}
 use Rattle.counters.specs.CountLaws.{stored-two, same-counts}
@@ -35,14 +36,17 @@ pub record Spelled (s : State) : Type 0 where
 
 -- and there are no more counts than cells
 pub record WellFormed (s : State) : Type 0 where
-  pub next-fits : s .next < 2 ^ 64
-  pub live-fits : s .live < 2 ^ 64
-  pub sorted : ordered (s .next) (s .counts) ≡ true
-  pub counts-fit : all (λ e. ltb (e .count) (2 ^ 64)) (s .counts) ≡ true
+  pub spelled : Spelled s
   pub bounded : length (s .counts) ≤ s .live
 
-pub well-spelled : (s : State) → WellFormed s → Spelled s
-well-spelled s w = record { next-fits = w .next-fits; live-fits = w .live-fits; sorted = w .sorted; counts-fit = w .counts-fit }
+-- whatever its maintenance
+pub well-maintained : (s : State) (m : CounterMaintenance) → WellFormed s → WellFormed (record { next = s .next; live = s .live; counts = s .counts; maintenance = m })
+well-maintained s m w =
+    let p = w .spelled in
+    record {
+      spelled = record { next-fits = p .next-fits; live-fits = p .live-fits; sorted = p .sorted; counts-fit = p .counts-fit };
+      bounded = w .bounded;
+    }
 
 -- the state with the maintenance of a new box
 abbrev pub renewed : ℕ → State → State
@@ -184,7 +188,7 @@ parse-snapshot base room s w r =
 pub read-snapshot : (base room : ℕ) (s : State) → WellFormed s → length (s .counts) ≤ room → readSnapshot base room (snapshotBytes s) ≡ taken (renewed base s)
 unfolding readSnapshot
 read-snapshot base room s w r =
-    bound-taken (parseSnapshot base room (snapshotBytes s)) (renewed base s) .1 (parse-snapshot base room s (well-spelled s w) r, w .bounded)
+    bound-taken (parseSnapshot base room (snapshotBytes s)) (renewed base s) .1 (parse-snapshot base room s (w .spelled) r, w .bounded)
 
 -- the bytes are those of the next index, the live total and the counts alone
 pub snapshot-same : (s t : State) → s .next ≡ t .next → s .live ≡ t .live → s .counts ≡ t .counts → snapshotBytes s ≡ snapshotBytes t
@@ -211,5 +215,5 @@ module _ (s t : State) (v : WellFormed s) (w : WellFormed t) where
       ↔ ((s .next ≡ t .next) × (s .live ≡ t .live) × ((i : ℕ) → i < s .next → countAt i (s .counts) ≡ countAt i (t .counts)))
   snapshot-counts = (
     (λ e. let d = snapshot-determines .0 e in (d .0, d .1, λ i h. ap (countAt i) (d .2))),
-    λ p. snapshot-determines .1 (p .0, p .1, same-counts (s .next) (s .counts) (t .counts) (v .sorted) (rw (p .0) (w .sorted)) (p .2)),
+    λ p. snapshot-determines .1 (p .0, p .1, same-counts (s .next) (s .counts) (t .counts) (v .spelled .sorted) (rw (p .0) (w .spelled .sorted)) (p .2)),
   )

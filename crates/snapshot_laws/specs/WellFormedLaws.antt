@@ -24,14 +24,14 @@ use Rattle.counters.specs.declared.CounterTransition.{CounterTransition}
 use Rattle.counters.specs.declared.NextIdx.{NextIdx}
 use Rattle.counters.specs.Counts.{Entry, State, rowOf, setCount, fresh}
 use Rattle.counters.specs.Batch.{changes, kept, countsAfter, stateAfter, applyBatch}
-use Rattle.counters.specs.Maintenance.{Settings}
+use Rattle.counters.specs.Maintenance.{Settings, decide, shrunk}
 use Rattle.counters.specs.Layout.{countRow, transitionRow, roomOf, withNext, stateOf, holds, batchOf}
 use Rattle.counters.specs.Calls.{newCall, allocCall, batchCall, shrinkCall}
 use Rattle.counters.specs.RefusalLaws.{allocate-spent, taken-state, taken-next, taken-ordered, taken-live, bounded-after}
 use Rattle.counters.specs.CallLaws.{new-state, alloc-answer, alloc-taken, alloc-refused, batch-refused, batch-accepted, shrink-state, shrink-broken, shrink-refused}
 use Rattle.counters.specs.CountLaws.{ordered-more}
 use Rattle.snapshot_laws.specs.SetLaws.{ordered-none}
-use Rattle.snapshot_laws.specs.RoundTrip.{WellFormed}
+use Rattle.snapshot_laws.specs.RoundTrip.{WellFormed, well-maintained}
 use Rattle.snapshot_laws.specs.CallLaws.{word-passes}
 
 -- ---- counts of 8 bytes
@@ -60,12 +60,16 @@ pub applied-well-formed : (room : ℕ) (s : State) (ts : List CounterTransition)
     → all (λ t. ltb (t .«new_raw») (2 ^ 64)) ts ≡ true → WellFormed s′
 unfolding stateAfter kept
 applied-well-formed room s ts s′ ok w a =
+    let p = w .spelled in
     let left : s′ .counts ≡ countsAfter (kept ts) (s .counts) = ap (λ (r : State). r .counts) (taken-state room s ts s′ ok) in
     record {
-      next-fits = omega (arith, taken-next room s ts s′ ok, w .next-fits);
-      live-fits = omega (arith, taken-live room s ts s′ ok .1);
-      sorted = taken-ordered room s ts s′ ok (w .sorted);
-      counts-fit = rw left (counts-fit-after (kept ts) (s .counts) (all-keep (λ t. ltb (t .«new_raw») (2 ^ 64)) changes ts a) (w .counts-fit));
+      spelled =
+          record {
+            next-fits = omega (arith, taken-next room s ts s′ ok, p .next-fits);
+            live-fits = omega (arith, taken-live room s ts s′ ok .1);
+            sorted = taken-ordered room s ts s′ ok (p .sorted);
+            counts-fit = rw left (counts-fit-after (kept ts) (s .counts) (all-keep (λ t. ltb (t .«new_raw») (2 ^ 64)) changes ts a) (p .counts-fit));
+          };
       bounded = bounded-after room s ts s′ ok;
     }
 
@@ -90,7 +94,7 @@ batch-fits ws ts a e = go (eqb (length ws % 3) 0) e
 pub new-well-formed : (base : ℕ) (next : NextIdx) (t : List ℕ) → next .0 < 2 ^ 64 → WellFormed (stateOf (newCall base next t .result .counters) (newCall base next t .table))
 unfolding fresh all
 new-well-formed base next t h =
-    rw (new-state base next t) (record { next-fits = h; live-fits = omega arith; sorted = ordered-none (next .0); counts-fit = refl; bounded = omega arith })
+    rw (new-state base next t) (record { spelled = record { next-fits = h; live-fits = omega arith; sorted = ordered-none (next .0); counts-fit = refl }; bounded = omega arith })
 
 module _ (c : Counters) (t : List ℕ) (w : WellFormed (stateOf c t)) where
   pub alloc-well-formed : WellFormed (stateOf (allocCall c .counters) t)
@@ -100,12 +104,16 @@ module _ (c : Counters) (t : List ℕ) (w : WellFormed (stateOf c t)) where
       go : (a : Answer) → allocCall c .answer ≡ a → WellFormed (stateOf (allocCall c .counters) t)
       go (Refused r) e = rw (alloc-refused c r e .1) w
       go Taken e =
-          let below : c .«next_idx» .0 + 1 < 2 ^ 64 = omega (arith, w .next-fits, unspent e) in
+          let p = w .spelled in
+          let below : c .«next_idx» .0 + 1 < 2 ^ 64 = omega (arith, p .next-fits, unspent e) in
           rw (alloc-taken c e .1) (record {
-            next-fits = below;
-            live-fits = w .live-fits;
-            sorted = ordered-more (c .«next_idx» .0) (rowsOf countRow (c .stored) t) (w .sorted) (c .«next_idx» .0 + 1) (omega arith);
-            counts-fit = w .counts-fit;
+            spelled =
+                record {
+                  next-fits = below;
+                  live-fits = p .live-fits;
+                  sorted = ordered-more (c .«next_idx» .0) (rowsOf countRow (c .stored) t) (p .sorted) (c .«next_idx» .0 + 1) (omega arith);
+                  counts-fit = p .counts-fit;
+                };
             bounded = w .bounded;
           })
         where
@@ -126,5 +134,5 @@ module _ (c : Counters) (t : List ℕ) (w : WellFormed (stateOf c t)) where
   shrink-well-formed g saved = go (holds c t) refl
     where
       go : (b : Bool) → holds c t ≡ b → WellFormed (stateOf (shrinkCall g c t saved .counters) t)
-      go true h = rw (shrink-state g c t saved h) (record { next-fits = w .next-fits; live-fits = w .live-fits; sorted = w .sorted; counts-fit = w .counts-fit; bounded = w .bounded })
+      go true h = rw (shrink-state g c t saved h) (well-maintained (stateOf c t) (shrunk g saved (decide (stateOf c t)) (stateOf c t .maintenance)) w)
       go false h = rw (shrink-refused g c t saved Broken (shrink-broken g c t saved .1 h)) w
