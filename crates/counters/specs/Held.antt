@@ -18,7 +18,7 @@ pub record InOrder (n : ℕ) (t : List ℕ) : Type 0 where
   pub laid : Laid 2 n t
   pub ascends : ascendingFrom 0 (keys firstWord 2 n t) ≡ true
 
--- the table holds a state, and the batch passed the tests before 25, which applying it asks for
+-- what applying a batch asks for: the table holds a state, and the tests before 25 were passed
 pub record Judged (c : Counters) (t ws : List ℕ) : Type 0 where
   pub holding : holds c t ≡ true
   pub once : repeated (named (kept (transitions ws))) ≡ false

@@ -29,8 +29,8 @@ pub extern "C" fn selvaigo_deserialize_trusted(
     }
 }
 
-// The same of a snapshot from before 25, in whose place a live total below the counts is raised to them. The snapshot's own total goes
-// into old_total, 0 beside a refusal.
+// The same of a snapshot from before 25: a live total below the number of counts is raised to it. The total that the snapshot has goes into
+// old_total, 0 beside a refusal.
 #[no_mangle]
 pub extern "C" fn selvaigo_load_snapshot(
     snapshot: &[u8],

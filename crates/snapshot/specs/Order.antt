@@ -54,11 +54,11 @@ abbrev read : List ℕ → List ℕ → ℕ
 read bs t = answerNumber (deserializeCall 0 bs t .result .answer)
 
 -- a state record at a next index and a live total that tells of some rows
-abbrev recordOf : ℕ → ℕ → ℕ → ℕ → Counters
-recordOf base next live stored = record { «next_idx» = record { 0 = next }; «live_cells» = live; stored = stored; maintenance = freshMaintenance base }
+abbrev recordWith : ℕ → ℕ → ℕ → ℕ → Counters
+recordWith base next live stored = record { «next_idx» = record { 0 = next }; «live_cells» = live; stored = stored; maintenance = freshMaintenance base }
 
 abbrev recordAt : ℕ → ℕ → ℕ → Counters
-recordAt base next stored = recordOf base next 2 stored
+recordAt base next stored = recordWith base next 2 stored
 
 -- the number that loading bytes into a table is answered with
 abbrev load : List ℕ → List ℕ → ℕ
@@ -126,7 +126,7 @@ pub record RefusalBounds : Type 0 where
       ≡ record { result = record { answer = Taken; counters = recordAt 131072 1 1 }; table = 0 ∷ 257 ∷ 0 ∷ [] }
   -- a refusal leaves the table, and its record is all zeros
   unchanged : deserializeCall 131072 [] (9 ∷ 9 ∷ 9 ∷ [])
-      ≡ record { result = record { answer = Refused TornSnapshot; counters = recordOf 0 0 0 0 }; table = 9 ∷ 9 ∷ 9 ∷ [] }
+      ≡ record { result = record { answer = Refused TornSnapshot; counters = recordWith 0 0 0 0 }; table = 9 ∷ 9 ∷ 9 ∷ [] }
   -- 15: an output one byte too short, which isn't touched; one that fits, and one with a byte beyond the answer
   output-short : serializeCall (recordAt 0 0 0) [] (replicate 144 9)
       ≡ record { result = record { answer = Refused OutputFull; len = 0 }; out = replicate 144 9 }
@@ -137,13 +137,13 @@ pub record RefusalBounds : Type 0 where
 pub record LoadLines : Type 0 where
   -- a total below the stored counts is raised to them, and told
   raises : loadCall 131072 (unsetOf 2 0 (big 0 257)) (9 ∷ 9 ∷ 9 ∷ [])
-      ≡ record { result = record { answer = Taken; counters = recordOf 131072 2 1 1; «old_total» = 0 }; table = 0 ∷ 257 ∷ 0 ∷ [] }
+      ≡ record { result = record { answer = Taken; counters = recordWith 131072 2 1 1; «old_total» = 0 }; table = 0 ∷ 257 ∷ 0 ∷ [] }
   -- one that is enough stays, and is told too
   keeps : loadCall 131072 (unsetOf 2 7 (big 0 257)) (zeros 2)
-      ≡ record { result = record { answer = Taken; counters = recordOf 131072 2 7 1; «old_total» = 7 }; table = 0 ∷ 257 ∷ [] }
+      ≡ record { result = record { answer = Taken; counters = recordWith 131072 2 7 1; «old_total» = 7 }; table = 0 ∷ 257 ∷ [] }
   -- a repeated large index is one count: the total is raised to 2, not to 3
   repeated-raises : loadCall 0 (unsetOf 2 1 (big 0 258 ++ big 1 257 ++ big 0 257)) (zeros 4)
-      ≡ record { result = record { answer = Taken; counters = recordOf 0 2 2 2; «old_total» = 1 }; table = 0 ∷ 257 ∷ 1 ∷ 257 ∷ [] }
+      ≡ record { result = record { answer = Taken; counters = recordWith 0 2 2 2; «old_total» = 1 }; table = 0 ∷ 257 ∷ 1 ∷ 257 ∷ [] }
   -- the refusals of reading but 25
   refuses-six : load (unsetOf 1 0 (big 0 257)) [] ≡ 6
   refuses-eleven : load (unsetOf 0 0 (big 0 257)) (zeros 2) ≡ 11
@@ -151,7 +151,7 @@ pub record LoadLines : Type 0 where
   refuses-seven : load (2 ∷ []) [] ≡ 7
   -- one leaves the table, its record is all zeros, and the total beside it is 0
   refused-whole : loadCall 131072 (unsetOf 0 7 (big 0 257)) (9 ∷ 9 ∷ [])
-      ≡ record { result = record { answer = Refused TierClash; counters = recordOf 0 0 0 0; «old_total» = 0 }; table = 9 ∷ 9 ∷ [] }
+      ≡ record { result = record { answer = Refused TierClash; counters = recordWith 0 0 0 0; «old_total» = 0 }; table = 9 ∷ 9 ∷ [] }
 
 -- next index 772, live total 1541, count 3 at index 5 (code 2: set 1), count 770 at index 6
 abbrev sample : State

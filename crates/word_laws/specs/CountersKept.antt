@@ -3,14 +3,14 @@
 -- nothing but calls has written them.
 -- Assumes nothing.
 use Prim.Native.Nat.{ℕ}
-use mathlib.Core.Path.{_≡_, refl}
+use mathlib.Core.Path.{_≡_, refl, ap}
 use mathlib.Core.Bool.{true, or-true}
 use mathlib.Core.List.{List, [], _∷_}
 use native.Mathlib.Omega.{arith}
 use lib.ListN.{length}
 use lib.Dec.{eqb}
 use Rattle.base.specs.Logic.{any, elem, zeros}
-use Rattle.base.specs.Answers.{Outcome, refused, taken, _>>=_, orRefuse, either, answerOf, valueOr, answerNumber, numberOf}
+use Rattle.base.specs.Answers.{Outcome, refused, taken, _>>=_, orRefuse, answerOf, valueOr, answerNumber, numberOf}
 use Rattle.base.specs.AnswerLaws.{Answers}
 use Rattle.base.specs.Output.{put, fitting, written}
 use Rattle.base.specs.declared.Answer.{Answer}
@@ -25,12 +25,12 @@ use Rattle.counters.specs.Layout.{roomOf, recordOf, holds, batchOf}
 use Rattle.counters.specs.Calls.{onState, laid, laidOut, newCall, allocated, allocCall, getCall, batchCall, decided, shrinkCall}
 use Rattle.counters.specs.CallLaws.{new-holds, alloc-holds, batch-holds, shrink-holds}
 use Rattle.snapshot.specs.Write.{snapshotBytes}
-use Rattle.snapshot.specs.Read.{parseSnapshot, readSnapshot, raised}
-use Rattle.snapshot.specs.Calls.{serializeCall, deserializeCall, loadEffect, loadCall, lengthCall}
+use Rattle.snapshot.specs.Read.{readSnapshot}
+use Rattle.snapshot.specs.Calls.{serializeCall, deserializeCall, loadCall, lengthCall}
 use Rattle.snapshot_laws.specs.RefusalLaws.{read-numbers}
 use Rattle.snapshot_laws.specs.CallLaws.{deserialize-taken-holds}
 use Rattle.snapshot_laws.specs.LoadLaws as loads
-use Rattle.snapshot_laws.specs.LoadLaws.{load-holds}
+use Rattle.snapshot_laws.specs.LoadLaws.{load-refused, load-holds}
 use Rattle.state_words.specs.Words.{countersOf, countersWords, oneWord, writtenSaid, wordsAfter, Unchanged, left}
 use Rattle.state_words.specs.WordLaws.{counters-words-back}
 use Rattle.word_calls.specs.CountersSaid.{changedSaid, allocatedSaid, gotSaid, shrunkSaid, lengthFound, readSaid, loadedSaid, newSaid, allocSaid, getSaid, batchSaid, shrinkSaid, lengthSaid, serializeSaid, deserializeSaid, loadSaid}
@@ -113,16 +113,12 @@ module _ (w t : List ℕ) where
 
   -- the same of loading: beside a refusal the total is 0
   pub load-unchanged : (bs : List ℕ) → Unchanged (oneWord 0) (w ∷ t ∷ []) (loadSaid bs w t)
-  unfolding loadSaid loadedSaid loadCall laidOut laid
-  load-unchanged bs = go (parseSnapshot (standard .base) (roomOf t) bs)
+  unfolding loadSaid loadedSaid
+  load-unchanged bs n = go (loadCall (standard .base) bs t .result .answer) refl
     where
-      go : (o : Outcome State)
-          → Unchanged (oneWord 0) (w ∷ t ∷ [])
-          (loadedSaid w
-          (let x = laidOut (recordOf (fresh 0 0)) t (o >>= (λ s. taken (raised s))) in
-          loadEffect (record { answer = x .result .answer; counters = x .result .counters; «old_total» = either (λ r. 0) (λ s. s .live) o }) (x .table)))
-      go (refused r) n = (refl, refl)
-      go (taken s) n = absurd (n refl)
+      go : (a : Answer) → loadCall (standard .base) bs t .result .answer ≡ a → (loadSaid bs w t .values ≡ oneWord 0) × (loadSaid bs w t .lent ≡ w ∷ t ∷ [])
+      go (Refused r) e = rw (load-refused (standard .base) bs t r e) (refl, refl)
+      go Taken e = absurd (n (ap answerNumber e))
 
   -- and never 25
   pub load-numbers : (bs : List ℕ) → elem (loadSaid bs w t .answer) (0 ∷ 8 ∷ 7 ∷ 9 ∷ 10 ∷ 11 ∷ 6 ∷ []) ≡ true
