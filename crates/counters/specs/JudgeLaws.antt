@@ -57,14 +57,14 @@ module _ (c : Counters) (t ws : List ℕ) (h : holds c t ≡ true) (whole : leng
   abbrev ks : List CounterTransition
   ks = kept (transitions ws)
 
-  whole-batch : batchCall c t ws ≡ laidOut c t (applyBatch (roomOf t) (stateOf c t) (transitions ws))
+  whole-batch : batchCall c t ws ≡ laidOut (c .settings) c t (applyBatch (roomOf t) (stateOf c t) (transitions ws))
   unfolding batchOf
   whole-batch = batch-held c t ws (transitions ws) h (rw (eq-eqb (length ws % 3) 0 whole))
 
   refusal : (r : Refusal) → applyBatch (roomOf t) (stateOf c t) (transitions ws) ≡ refused r
       → effect (record { answer = Refused r; counters = c }) t ≡ batchCall c t ws
   unfolding laidOut
-  refusal r e = sym (whole-batch ∙ ap (laidOut c t) e)
+  refusal r e = sym (whole-batch ∙ ap (laidOut (c .settings) c t) e)
 
   -- ---- the tests in their order
   at-2 : any (unallocated next) ks ≡ true → applyBatch (roomOf t) (stateOf c t) (transitions ws) ≡ refused Unallocated
@@ -146,9 +146,9 @@ module _ (c : Counters) (t ws : List ℕ) (h : holds c t ≡ true) (whole : leng
             judged = record { holding = h; once = e₃; total = e₄; fits = omega (arith, ltb-false (length t / 2) (length (countsAfter ks es)) e₆) }
 
             pub judge-taken : ltb (c .«live_cells» + births ks - deaths ks) (length (countsAfter ks es)) ≡ false
-                → effect (record { answer = Taken; counters = recordOf (stateAfter ks (stateOf c t)) }) (tableOf (length t) (stateAfter ks (stateOf c t))) ≡ batchCall c t ws
+                → effect (record { answer = Taken; counters = recordOf (c .settings) (stateAfter ks (stateOf c t)) }) (tableOf (length t) (stateAfter ks (stateOf c t))) ≡ batchCall c t ws
             unfolding laidOut laid
-            judge-taken e = sym (whole-batch ∙ ap (laidOut c t) (at-0 e))
+            judge-taken e = sym (whole-batch ∙ ap (laidOut (c .settings) c t) (at-0 e))
 
 -- ---- the total, by its two figures
 module _ (live : ℕ) (ks : List CounterTransition) where

@@ -8,7 +8,7 @@ use native.Mathlib.Nat.{zero-div, div-eq-of-lt, lt-of-lt-of-le}
 use native.Mathlib.Numerals.{add-one}
 use native.Mathlib.Omega.{arith}
 use native.Mathlib.Decide.{decLe}
-use lib.Dec.{eqb, ltb}
+use lib.Dec.{eqb, leb, ltb}
 use lib.Pow.{pow-mono}
 use lib.ListN.{length, take, drop, getD, set, replicate, length-map}
 use lib.Seq.{drop-length, take-suc, take-suc-set, take-all}
@@ -19,11 +19,12 @@ use Rattle.base.specs.declared.Answer.the-variants.{Taken, Refused}
 use Rattle.base.specs.declared.Refusal.the-variants.{Broken}
 use Rattle.rows.specs.Table.{rowsOf}
 use Rattle.rows.specs.TableLaws.{length-rowsOf}
+use Rattle.counters.specs.declared.ShrinkSettings.{ShrinkSettings}
 use Rattle.counters.specs.declared.Counters.{Counters}
 use Rattle.counters.specs.declared.CounterMaintenance.{CounterMaintenance}
 use Rattle.counters.specs.Counts.{Entry, smallCode, inSet, members}
 use Rattle.counters.specs.declared.CounterTransition.{CounterTransition}
-use Rattle.counters.specs.Maintenance.{standard, adjustShrinkThreshold, adjusted, setMinimum, shouldShrink, setsShrink, resetWhere, decide, shrunk, grown, grownSets, clears}
+use Rattle.counters.specs.Maintenance.{inRange, adjustShrinkThreshold, adjusted, setMinimum, shouldShrink, setsShrink, resetWhere, decide, shrunk, grown, grownSets, clears}
 use Rattle.counters.specs.Layout.{countRow, withMaintenance, stateOf, holds}
 use Rattle.counters.specs.Calls.{onState, decided, shrinkCall}
 use Rattle.counters.specs.RowLaws.{from-row}
@@ -89,19 +90,29 @@ module _ (k n : ℕ) (t : List ℕ) (i : ℕ) where
       let e : i ≡ length (rowsOf countRow n t) = omega (arith, length-rowsOf countRow n t) in
       rw (e, drop-length (rowsOf countRow n t))
 
+-- ---- the ranges of the settings
+module _ (g : ShrinkSettings) where
+  pub no-base : g .base ≡ 0 → false ≡ inRange g
+  unfolding inRange
+  no-base e = rw (lt-leb 1 (g .base) (omega arith))
+
+  pub base-in : (g .base ≡ 0 → ⊥) → leb (g .base) (g .max) ≡ inRange g
+  unfolding inRange
+  base-in n = rw (le-leb 1 (g .base) (omega arith))
+
 -- ---- the alive threshold
-module _ (saved threshold : ℕ) where
-  pub good-save : 1048576 ≤ saved → 131072 ≡ adjustShrinkThreshold standard saved threshold
-  unfolding standard adjustShrinkThreshold
-  good-save h = rw (le-leb 1048576 saved h)
+module _ (g : ShrinkSettings) (saved threshold : ℕ) where
+  pub good-save : g .«good_save» ≤ saved → g .base ≡ adjustShrinkThreshold g saved threshold
+  unfolding adjustShrinkThreshold
+  good-save h = rw (le-leb (g .«good_save») saved h)
 
-  pub far-threshold : saved < 1048576 → 2097152 / 2 < threshold → 2097152 ≡ adjustShrinkThreshold standard saved threshold
-  unfolding standard adjustShrinkThreshold
-  far-threshold h g = rw (lt-leb 1048576 saved h) (omega arith)
+  pub far-threshold : saved < g .«good_save» → g .max / 2 < threshold → g .max ≡ adjustShrinkThreshold g saved threshold
+  unfolding adjustShrinkThreshold
+  far-threshold h f = rw (lt-leb (g .«good_save») saved h) (omega arith)
 
-  pub doubled : saved < 1048576 → threshold ≤ 2097152 / 2 → threshold * 2 ≡ adjustShrinkThreshold standard saved threshold
-  unfolding standard adjustShrinkThreshold
-  doubled h g = rw (lt-leb 1048576 saved h) (omega arith)
+  pub doubled : saved < g .«good_save» → threshold ≤ g .max / 2 → threshold * 2 ≡ adjustShrinkThreshold g saved threshold
+  unfolding adjustShrinkThreshold
+  doubled h f = rw (lt-leb (g .«good_save») saved h) (omega arith)
 
 -- ---- whether to shrink
 module _ (alive removed minimum : ℕ) where
@@ -163,27 +174,27 @@ withRemoved m n ns =
       «min_alive_removed_before_shrink» = m .«min_alive_removed_before_shrink»;
     }
 
-module _ (saved : ℕ) (alive : Bool) (small : List Bool) (m : CounterMaintenance) (n : ℕ) (ns : List ℕ)
+module _ (g : ShrinkSettings) (saved : ℕ) (alive : Bool) (small : List Bool) (m : CounterMaintenance) (n : ℕ) (ns : List ℕ)
     (alive-left : n ≡ pick alive 0 (m .«alive_removed_since_shrink»)) (small-left : ns ≡ resetWhere small (m .«small_removed_since_shrink»)) where
-  pub after-yes : alive ≡ true → adjusted standard saved (withRemoved m n ns) ≡ shrunk standard saved (record { alive = alive; small = small }) m
+  pub after-yes : alive ≡ true → adjusted g saved (withRemoved m n ns) ≡ shrunk g saved (record { alive = alive; small = small }) m
   unfolding shrunk
   after-yes e = rw (alive-left, small-left, e)
 
-  pub after-no : alive ≡ false → withRemoved m n ns ≡ shrunk standard saved (record { alive = alive; small = small }) m
+  pub after-no : alive ≡ false → withRemoved m n ns ≡ shrunk g saved (record { alive = alive; small = small }) m
   unfolding shrunk
   after-no e = rw (alive-left, small-left, e)
 
 -- ---- the call, by the check of its table
 module _ (c : Counters) (t : List ℕ) (saved : ℕ) where
-  pub shrink-broken : holds c t ≡ false → record { answer = Refused Broken; alive = false; small = replicate 8 false; counters = c } ≡ shrinkCall standard c t saved
+  pub shrink-broken : holds c t ≡ false → record { answer = Refused Broken; alive = false; small = replicate 8 false; counters = c } ≡ shrinkCall c t saved
   unfolding shrinkCall decided onState
   shrink-broken h = rw h
 
   pub shrink-held : (alive : Bool) (small : List Bool) (m : CounterMaintenance) → holds c t ≡ true
       → alive ≡ shouldShrink (c .stored) (c .maintenance .«alive_removed_since_shrink») (c .maintenance .«min_alive_removed_before_shrink»)
       → small ≡ setsShrink (rowsOf countRow (c .stored) t) (c .maintenance .«small_removed_since_shrink»)
-      → m ≡ shrunk standard saved (record { alive = alive; small = small }) (c .maintenance)
-      → record { answer = Taken; alive = alive; small = small; counters = withMaintenance c m } ≡ shrinkCall standard c t saved
+      → m ≡ shrunk (c .settings) saved (record { alive = alive; small = small }) (c .maintenance)
+      → record { answer = Taken; alive = alive; small = small; counters = withMaintenance c m } ≡ shrinkCall c t saved
   unfolding shrinkCall decided onState decide stateOf
   shrink-held alive small m h a s e = rw (h, length-rowsOf countRow (c .stored) t, e, a, s)
 

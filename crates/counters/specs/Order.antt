@@ -3,20 +3,21 @@
 -- Of each refusal: the smallest input that is given it, beside the nearest one that is not.
 -- Assumes nothing.
 use mathlib.Core.Path.{_≡_, refl}
-use Prim.Native.Nat.{ℕ, _-_}
+use Prim.Native.Nat.{ℕ, _-_, _^_}
 use mathlib.Core.Bool.{true, false}
 use mathlib.Core.List.{List, [], _∷_}
 use lib.ListN.{replicate}
 use Rattle.base.specs.Logic.{max64, zeros}
 use Rattle.base.specs.Answers.{answerNumber}
 use Rattle.base.specs.declared.Answer.the-variants.{Taken, Refused}
-use Rattle.base.specs.declared.Refusal.the-variants.{Spent, Unallocated, FalseOld, Broken}
+use Rattle.base.specs.declared.Refusal.the-variants.{Spent, Unallocated, FalseOld, Broken, BadSetting}
 use Rattle.counters.specs.declared.CounterMaintenance.{CounterMaintenance}
+use Rattle.counters.specs.declared.ShrinkSettings.{ShrinkSettings}
 use Rattle.counters.specs.declared.Counters.{Counters}
 use Rattle.counters.specs.Counts.{Entry, State, freshMaintenance}
 use Rattle.counters.specs.Maintenance.{standard, grown, shouldShrink, setMinimum, adjustShrinkThreshold}
 use Rattle.counters.specs.Layout.{recordOf, tableOf}
-use Rattle.counters.specs.Calls.{allocCall, getCall, batchCall, shrinkCall}
+use Rattle.counters.specs.Calls.{Changed, newCall, allocCall, getCall, batchCall, shrinkCall}
 use Rattle.counters.specs.Open.{evaluation}
 
 -- counters at a next index and a live total, with some stored counts
@@ -29,14 +30,14 @@ one i n = record { idx = i; count = n } ∷ []
 
 -- a state record at a next index that tells of some rows and of as many cells
 abbrev recordAt : ℕ → ℕ → Counters
-recordAt next stored = record { «next_idx» = record { 0 = next }; «live_cells» = stored; stored = stored; maintenance = freshMaintenance 0 }
+recordAt next stored = record { «next_idx» = record { 0 = next }; «live_cells» = stored; stored = stored; maintenance = freshMaintenance 0; settings = standard }
 
 -- the number that a batch is answered with, on a record and a table; and on a state in a table of a given length
 abbrev batchOn : Counters → List ℕ → List ℕ → ℕ
 batchOn c t ws = answerNumber (batchCall c t ws .result .answer)
 
 abbrev batch : State → ℕ → List ℕ → ℕ
-batch s len ws = batchOn (recordOf s) (tableOf len s) ws
+batch s len ws = batchOn (recordOf standard s) (tableOf len s) ws
 
 -- the number that a reading of a count is answered with
 abbrev get : Counters → List ℕ → ℕ → ℕ
@@ -130,7 +131,7 @@ pub record BrokenTables : Type 0 where
   stray-row : get (recordAt 1 0) (0 ∷ 2 ∷ 0 ∷ []) 0 ≡ 20
   stray-word : get (recordAt 1 0) (0 ∷ 0 ∷ 2 ∷ []) 0 ≡ 20
   -- fewer cells than rows
-  few-cells : get (record { «next_idx» = record { 0 = 1 }; «live_cells» = 0; stored = 1; maintenance = freshMaintenance 0 }) (0 ∷ 2 ∷ []) 0 ≡ 20
+  few-cells : get (record { «next_idx» = record { 0 = 1 }; «live_cells» = 0; stored = 1; maintenance = freshMaintenance 0; settings = standard }) (0 ∷ 2 ∷ []) 0 ≡ 20
   -- more rows than words
   short-table : get (recordAt 1 1) (0 ∷ []) 0 ≡ 20
   -- words of a batch that are no multiple of 3
@@ -138,7 +139,7 @@ pub record BrokenTables : Type 0 where
   ragged-two : batchOn (recordAt 1 0) [] (0 ∷ 1 ∷ []) ≡ 20
   no-words : batchOn (recordAt 1 0) [] [] ≡ 0
   -- shrinking: nine times no beside the refusal
-  shrink-broken : shrinkCall standard (recordAt 1 0) (7 ∷ []) 0
+  shrink-broken : shrinkCall (recordAt 1 0) (7 ∷ []) 0
       ≡ record { answer = Refused Broken; alive = false; small = replicate 8 false; counters = recordAt 1 0 }
   -- allocation is lent no table
   alloc-unseen : answerNumber (allocCall (recordAt 1 9) .answer) ≡ 0
@@ -150,7 +151,7 @@ removals alive set minimum =
 
 -- a state record with nothing stored
 abbrev unstored : CounterMaintenance → Counters
-unstored m = record { «next_idx» = record { 0 = 0 }; «live_cells» = 0; stored = 0; maintenance = m }
+unstored m = record { «next_idx» = record { 0 = 0 }; «live_cells» = 0; stored = 0; maintenance = m; settings = standard }
 
 pub record MaintenanceBounds : Type 0 where
   -- nothing removed: no; nothing alive: yes
@@ -172,10 +173,63 @@ pub record MaintenanceBounds : Type 0 where
   grows : grown (max64 - 1) 1 ≡ max64
   stops : grown max64 1 ≡ max64
   -- a yes sets that removal count to 0; the threshold moves only after an alive yes
-  alive-yes : shrinkCall standard (unstored (removals 1 0 131072)) [] 0
+  alive-yes : shrinkCall (unstored (removals 1 0 131072)) [] 0
       ≡ record { answer = Taken; alive = true; small = replicate 8 false; counters = unstored (removals 0 0 262144) }
-  set-yes : shrinkCall standard (unstored (removals 0 1 131072)) [] 0
+  set-yes : shrinkCall (unstored (removals 0 1 131072)) [] 0
       ≡ record { answer = Taken; alive = false; small = true ∷ replicate 7 false; counters = unstored (removals 0 0 131072) }
+
+-- shrink settings: base, maximum, good save
+abbrev shrink : ℕ → ℕ → ℕ → ShrinkSettings
+shrink base max save = record { base = base; max = max; «good_save» = save }
+
+-- fresh counters at a next index, made in a table of two words under some settings; the number that this is answered with
+abbrev make : ShrinkSettings → Changed
+make g = newCall g (record { 0 = 4 }) (7 ∷ 8 ∷ [])
+
+abbrev making : ShrinkSettings → ℕ
+making g = answerNumber (make g .result .answer)
+
+-- a state record with nothing stored under some settings, and with maintenance
+abbrev under : ShrinkSettings → CounterMaintenance → Counters
+under g m = record { «next_idx» = record { 0 = 0 }; «live_cells» = 0; stored = 0; maintenance = m; settings = g }
+
+-- fresh counters at the next index 4, with a threshold
+abbrev state-from : ℕ → State
+state-from base = record { next = 4; live = 0; counts = []; maintenance = freshMaintenance base }
+
+pub record SettingLines : Type 0 where
+  -- 23: the base is from 1 to the maximum; the maximum and the good save are any
+  standard-made : making standard ≡ 0
+  base-none : making (shrink 0 5 0) ≡ 23
+  base-one : making (shrink 1 5 0) ≡ 0
+  base-max : making (shrink 5 5 0) ≡ 0
+  base-above : making (shrink 6 5 0) ≡ 23
+  max-none : making (shrink 0 0 7) ≡ 23
+  max-below : making (shrink 1 0 7) ≡ 23
+  any-max : making (shrink 1 max64 max64) ≡ 0
+  -- beside 23 the table is as it was and the record all zeros
+  not-made : make (shrink 6 5 4)
+      ≡ record { result = record { answer = Refused BadSetting; counters = recordOf (shrink 0 0 0) (record { next = 0; live = 0; counts = []; maintenance = freshMaintenance 0 }) }; table = 7 ∷ 8 ∷ [] }
+  -- the threshold starts at the base
+  started : make (shrink 6 9 4) .result .counters ≡ recordOf (shrink 6 9 4) (state-from 6)
+  -- a lent record with such settings is broken
+  lent-none : get (under (shrink 0 5 0) (freshMaintenance 0)) [] 0 ≡ 20
+  lent-above : get (under (shrink 6 5 0) (freshMaintenance 0)) [] 0 ≡ 20
+  lent-batch : batchOn (under (shrink 6 5 0) (freshMaintenance 0)) [] [] ≡ 20
+  lent-max : batchOn (under (shrink 5 5 0) (freshMaintenance 0)) [] [] ≡ 0
+  -- the threshold goes to the box's base by its good save, else it doubles up to its maximum
+  save : adjustShrinkThreshold (shrink 10 35 7) 7 20 ≡ 10
+  no-save : adjustShrinkThreshold (shrink 10 35 7) 6 10 ≡ 20
+  to-max : adjustShrinkThreshold (shrink 10 35 7) 6 20 ≡ 35
+  -- a good save of 0: every save is good; a maximum of 2 ^ 64 - 1: doubling ends there
+  any-save : adjustShrinkThreshold (shrink 10 35 0) 0 20 ≡ 10
+  far : adjustShrinkThreshold (shrink 1 max64 7) 0 (2 ^ 63) ≡ max64
+  near : adjustShrinkThreshold (shrink 1 max64 7) 0 (2 ^ 63 - 1) ≡ max64 - 1
+  -- shrinking goes by the record's settings and leaves them
+  shrunk-by : shrinkCall (under (shrink 10 35 7) (removals 1 0 20)) [] 6
+      ≡ record { answer = Taken; alive = true; small = replicate 8 false; counters = under (shrink 10 35 7) (removals 0 0 35) }
+  shrunk-back : shrinkCall (under (shrink 10 35 7) (removals 1 0 20)) [] 7
+      ≡ record { answer = Taken; alive = true; small = replicate 8 false; counters = under (shrink 10 35 7) (removals 0 0 10) }
 
 pub refusal-order : RefusalOrder
 unfolding evaluation
@@ -273,4 +327,32 @@ maintenance-bounds =
       stops = refl;
       alive-yes = refl;
       set-yes = refl;
+    }
+
+pub setting-lines : SettingLines
+unfolding evaluation
+setting-lines =
+    record {
+      standard-made = refl;
+      base-none = refl;
+      base-one = refl;
+      base-max = refl;
+      base-above = refl;
+      max-none = refl;
+      max-below = refl;
+      any-max = refl;
+      not-made = refl;
+      started = refl;
+      lent-none = refl;
+      lent-above = refl;
+      lent-batch = refl;
+      lent-max = refl;
+      save = refl;
+      no-save = refl;
+      to-max = refl;
+      any-save = refl;
+      far = refl;
+      near = refl;
+      shrunk-by = refl;
+      shrunk-back = refl;
     }

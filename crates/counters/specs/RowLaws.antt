@@ -1,11 +1,12 @@
 -- The rows of the table of counts as a loop or a search meets them.
 -- Assumes nothing.
 use mathlib.Core.Path.{_≡_, refl, sym, ap, ap₂, _∙_}
-use mathlib.Core.Bool.{Bool, true, false, _&&_}
+use mathlib.Core.Bool.{Bool, true, false, _&&_, and-false}
 use mathlib.Core.List.{List, [], _∷_, map}
 use Prim.Native.Nat.{ℕ, zero, suc, _+_, _*_, _≤_, _<_}
 use native.Mathlib.Omega.{arith}
 use native.Mathlib.Decide.{decLe}
+use lib.Dec.{leb}
 use borrow.Author.Tests.{le-leb, lt-leb, le-ltb, lt-ltb, eq-eqb, ne-eqb}
 use lib.ListN.{length, drop, getD}
 use lib.Seq.{getD-drop, drop-length}
@@ -17,6 +18,7 @@ use Rattle.rows.specs.Keys.{keys, firstWord, place}
 use Rattle.rows.specs.KeyLaws.{place-le, place-at, length-keys, word-at, keys-rowsOf}
 use Rattle.counters.specs.Counts.{Entry, storedAt}
 use Rattle.counters.specs.declared.Counters.{Counters}
+use Rattle.counters.specs.Maintenance.{inRange}
 use Rattle.counters.specs.Layout.{countRow, sound, ordered, holds}
 use Rattle.counters.specs.LayoutLaws.{held}
 use Rattle.counters.specs.Steps.{rowAt}
@@ -120,21 +122,31 @@ module _ (c : Counters) (t : List ℕ) where
   unfolding holds ordered
   holds-not-order e a = rw (e, indices (c .stored) t, a)
 
+  -- a test that fails behind two others
+  neither : (a b d : Bool) → (a && b && false && d) ≡ false
+  neither true true d = refl
+  neither true false d = refl
+  neither false b d = refl
+
   pub holds-few : c .«live_cells» < c .stored → holds c t ≡ false
   unfolding holds
-  holds-few l = rw (lt-leb (c .stored) (c .«live_cells») l) (neither (holdsRows 2 (c .stored) t) (ordered (c .«next_idx» .0) (rowsOf countRow (c .stored) t)))
-    where
-      neither : (a b : Bool) → (a && b && false) ≡ false
-      neither true true = refl
-      neither true false = refl
-      neither false b = refl
+  holds-few l =
+      rw (lt-leb (c .stored) (c .«live_cells») l)
+      (neither (holdsRows 2 (c .stored) t) (ordered (c .«next_idx» .0) (rowsOf countRow (c .stored) t)) (inRange (c .settings)))
 
-  pub holds-sound : c .stored ≤ c .«live_cells» → holdsRows 2 (c .stored) t ≡ true → ascendingFrom 0 (keys firstWord 2 (c .stored) t) ≡ true
+  pub holds-not-ranged : inRange (c .settings) ≡ false → holds c t ≡ false
+  unfolding holds
+  holds-not-ranged e =
+      rw e
+      (and-false (holdsRows 2 (c .stored) t && ordered (c .«next_idx» .0) (rowsOf countRow (c .stored) t) && leb (c .stored) (c .«live_cells»)))
+
+  pub holds-sound : inRange (c .settings) ≡ true → c .stored ≤ c .«live_cells» → holdsRows 2 (c .stored) t ≡ true → ascendingFrom 0 (keys firstWord 2 (c .stored) t) ≡ true
       → holds c t ≡ all (sound (c .«next_idx» .0)) (rowsOf countRow (c .stored) t)
   unfolding holds ordered
-  holds-sound b e a = rw (e, indices (c .stored) t, a, le-leb (c .stored) (c .«live_cells») b) (both (all (sound (c .«next_idx» .0)) (rowsOf countRow (c .stored) t)))
+  holds-sound r b e a =
+      rw (e, indices (c .stored) t, a, le-leb (c .stored) (c .«live_cells») b, r) (both (all (sound (c .«next_idx» .0)) (rowsOf countRow (c .stored) t)))
     where
-      both : (d : Bool) → (d && true) ≡ d
+      both : (d : Bool) → (d && true && true) ≡ d
       both true = refl
       both false = refl
 

@@ -49,7 +49,7 @@ module _ (ts : List CounterTransition) where
 
   module _ (c : Counters) (t : List ℕ) where
     -- the call on the words is the operation on the records
-    pub records-call : batchCall c t (wordsOf ts) ≡ laidOut c t (onState c t (λ s. applyBatch (roomOf t) s ts))
+    pub records-call : batchCall c t (wordsOf ts) ≡ laidOut (c .settings) c t (onState c t (λ s. applyBatch (roomOf t) s ts))
     unfolding batchCall
     records-call = rw words-batch
 
