@@ -47,7 +47,7 @@ module _ (r : Nursery) (es ws cs : List ℕ) (wide : Bool) (inserts removes : �
   unfolding deltaCall onState laidOut laid
   answered = go outcome
     where
-      go : (o : Outcome State) → laidOut r es ws cs o .result .answer ≡ answerOf o
+      go : (o : Outcome State) → laidOut (r .delay) r es ws cs o .result .answer ≡ answerOf o
       go (refused q) = refl
       go (taken s) = refl
 
@@ -86,27 +86,27 @@ module _ (r : Nursery) (es ws cs : List ℕ) (wide : Bool) (inserts removes : �
       go false f = λ q e. let same : q ≡ Broken = cc in rw same
 
 -- ---- draining
-module _ (delay : ℕ) (r : Nursery) (es ws cs : List ℕ) (round : ℕ) (out : List ℕ) where
+module _ (r : Nursery) (es ws cs : List ℕ) (round : ℕ) (out : List ℕ) where
   abbrev handedOut : List ℕ
-  handedOut = drainBytes delay round (stateOf r es ws cs)
+  handedOut = drainBytes (r .delay) round (stateOf r es ws cs)
 
-  drain-answered : drainCall delay r es ws cs round out .result .answer ≡ answerOf (fitting (length out) (refuseIf (not (holds r es ws cs)) Broken >> taken handedOut))
+  drain-answered : drainCall r es ws cs round out .result .answer ≡ answerOf (fitting (length out) (refuseIf (not (holds r es ws cs)) Broken >> taken handedOut))
   unfolding drainCall onState drainedOut
   drain-answered = go (fitting (length out) (refuseIf (not (holds r es ws cs)) Broken >> taken handedOut))
     where
-      go : (o : Outcome (List ℕ)) → drainedOut r ws out o (drained delay round (stateOf r es ws cs)) .result .answer ≡ answerOf o
+      go : (o : Outcome (List ℕ)) → drainedOut r ws out o (drained (r .delay) round (stateOf r es ws cs)) .result .answer ≡ answerOf o
       go (refused q) = refl
       go (taken bs) = refl
 
   -- 20, broken: the record and the tables hold no state
-  pub drain-broken : (drainCall delay r es ws cs round out .result .answer ≡ Refused Broken) ↔ (holds r es ws cs ≡ false)
+  pub drain-broken : (drainCall r es ws cs round out .result .answer ≡ Refused Broken) ↔ (holds r es ws cs ≡ false)
   drain-broken = says _ drain-answered (lent-broken (length out) handedOut (holds r es ws cs))
 
   -- 15, output full: they do, and the output is shorter than what is handed out
-  pub drain-full : (drainCall delay r es ws cs round out .result .answer ≡ Refused OutputFull) ↔ ((holds r es ws cs ≡ true) × (length out < length handedOut))
+  pub drain-full : (drainCall r es ws cs round out .result .answer ≡ Refused OutputFull) ↔ ((holds r es ws cs ≡ true) × (length out < length handedOut))
   drain-full = says _ drain-answered (lent-full (length out) handedOut (holds r es ws cs))
 
-  pub drain-numbers : Answers (20 ∷ 15 ∷ []) (drainCall delay r es ws cs round out .result .answer)
+  pub drain-numbers : Answers (20 ∷ 15 ∷ []) (drainCall r es ws cs round out .result .answer)
   drain-numbers = says-numbers (20 ∷ 15 ∷ []) _ drain-answered (lent-numbers (length out) handedOut (holds r es ws cs))
 
 -- ---- looking up an index, by the entries alone

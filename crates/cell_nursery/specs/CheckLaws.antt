@@ -1,7 +1,7 @@
 -- The checks of the lent tables as loops meet them: row after row, and test after test.
 -- Assumes nothing.
 use mathlib.Core.Path.{_≡_, refl, sym, ap₂, _∙_}
-use mathlib.Core.Bool.{Bool, true, false, _&&_, and-false}
+use mathlib.Core.Bool.{Bool, true, false, _&&_, and-true, and-false}
 use mathlib.Core.List.{List, _∷_, map, append-nil}
 use Prim.Native.Nat.{ℕ, _+_, _-_, _*_, _/_, _^_, _≤_, _<_, min}
 use native.Mathlib.Numerals.{add-one}
@@ -19,7 +19,8 @@ use Rattle.rows.specs.Keys.{firstFour, keys}
 use Rattle.cell_nursery.specs.declared.Nursery.{Nursery}
 use Rattle.cell_nursery.specs.Entries.{empty, tied, cellBytes}
 use Rattle.cell_nursery.specs.Calls.{effect, laid, newCall}
-use Rattle.cell_nursery.specs.Layout.{entryRows, cellsOf, recordOf, entriesTable, waitingTable, cellsTable, hashAt, EntryRow, entryRow, WaitingRow, waitingRow, roomOf, stateOf, endToEnd, inBounds, byHash, byRound, holdsEntries, holdsWaiting, holdsCells, holds}
+use Rattle.cell_nursery.specs.Layout.{entryRows, cellsOf, recordOf, entriesTable, waitingTable, cellsTable, hashAt, EntryRow, entryRow, WaitingRow, waitingRow, roomOf, stateOf, endToEnd, inBounds, byHash, byRound, delayInRange, holdsEntries, holdsWaiting, holdsCells, holds}
+use Rattle.cell_nursery.specs.SettingLaws.{new-taken}
 use Rattle.cell_nursery.specs.LayoutLaws.{hashes-keys, ends-after, entries-held}
 
 -- ---- row k of a table, and the rows from it on
@@ -120,6 +121,10 @@ rounds-end n t i lo h = rw (drop-of-length-le (rowsOf waitingRow n t) {i = i} (r
 
 -- ---- test after test
 module _ (r : Nursery) (t : List ℕ) where
+  pub entries-bad-delay : delayInRange (r .delay) ≡ false → false ≡ holdsEntries r t
+  unfolding holdsEntries
+  entries-bad-delay e = rw e (sym (and-false (holdsRows 8 (r .entries) t && byHash (r .«cell_bytes») (rowsOf entryRow (r .entries) t))))
+
   pub entries-not-laid : holdsRows 8 (r .entries) t ≡ false → false ≡ holdsEntries r t
   unfolding holdsEntries
   entries-not-laid e = rw e
@@ -129,9 +134,10 @@ module _ (r : Nursery) (t : List ℕ) where
     unfolding holdsEntries byHash
     entries-not-ascending e = rw (laid, hashes-keys (r .entries) t, e)
 
-    pub entries-by-fields : ascendingFrom 0 (keys firstFour 8 (r .entries) t) ≡ true → fieldsHold 0 (r .«cell_bytes») (rowsOf entryRow (r .entries) t) ≡ holdsEntries r t
+    pub entries-by-fields : delayInRange (r .delay) ≡ true → ascendingFrom 0 (keys firstFour 8 (r .entries) t) ≡ true
+        → fieldsHold 0 (r .«cell_bytes») (rowsOf entryRow (r .entries) t) ≡ holdsEntries r t
     unfolding holdsEntries byHash
-    entries-by-fields e = rw (laid, hashes-keys (r .entries) t, e)
+    entries-by-fields d e = rw (laid, hashes-keys (r .entries) t, e, d) (sym (and-true (fieldsHold 0 (r .«cell_bytes») (rowsOf entryRow (r .entries) t))))
 
   pub waiting-not-laid : holdsRows 5 (r .waiting) t ≡ false → false ≡ holdsWaiting r t
   unfolding holdsWaiting
@@ -183,12 +189,12 @@ zeroed t =
     paste-start t (zeros (length t)) (length t) (length-replicate {A = ℕ} (length t) 0)
     ∙ rw (length-replicate {A = ℕ} (length t) 0, drop-length t) (append-nil (zeros (length t)))
 
-pub new-tables : (es ws cs : List ℕ)
-    → effect (record { answer = Taken; nursery = record { entries = 0; waiting = 0; «cell_bytes» = 0 } }) (paste es 0 (zeros (length es)) (length es)) (paste ws 0 (zeros (length ws)) (length ws)) (paste cs 0 (zeros (length cs)) (length cs))
-    ≡ newCall es ws cs
-unfolding newCall laid recordOf entriesTable waitingTable cellsTable tableOf empty entryRows cellsOf cellBytes flat sumOf
-new-tables es ws cs =
+pub new-tables : (delay : ℕ) → delayInRange delay ≡ true → (es ws cs : List ℕ)
+    → effect (record { answer = Taken; nursery = record { entries = 0; waiting = 0; «cell_bytes» = 0; delay = delay } }) (paste es 0 (zeros (length es)) (length es)) (paste ws 0 (zeros (length ws)) (length ws)) (paste cs 0 (zeros (length cs)) (length cs))
+    ≡ newCall delay es ws cs
+unfolding laid recordOf entriesTable waitingTable cellsTable tableOf empty entryRows cellsOf cellBytes flat sumOf
+new-tables delay ok es ws cs =
     let a : length es - 0 * 8 ≡ length es = omega arith in
     let b : length ws - 0 * 5 ≡ length ws = omega arith in
     let d : length cs - 0 ≡ length cs = omega arith in
-    rw (zeroed es, zeroed ws, zeroed cs, a, b, d)
+    rw (new-taken delay es ws cs ok, zeroed es, zeroed ws, zeroed cs, a, b, d)

@@ -59,15 +59,15 @@ pub record LayoutLines : Type 0 where
       ∷ 0 ∷ 0 ∷ []
   -- the cells end to end in the entries' order; then zeros
   cell-bytes : cells ≡ 72 ∷ 70 ∷ 71 ∷ 0 ∷ 0 ∷ []
-  -- the state record: rows in use of the two tables, cell bytes in use
-  fields : recordOf sample ≡ record { entries = 3; waiting = 3; «cell_bytes» = 3 }
+  -- the state record: rows in use of the two tables, cell bytes in use, the delay
+  fields : recordOf promotionDelay sample ≡ record { entries = 3; waiting = 3; «cell_bytes» = 3; delay = promotionDelay }
   -- the record and the tables hold the state, and spell it
-  held : holds (recordOf sample) entries waiting cells ≡ true
-  spelled : stateOf (recordOf sample) entries waiting cells ≡ sample
+  held : holds (recordOf promotionDelay sample) entries waiting cells ≡ true
+  spelled : stateOf (recordOf promotionDelay sample) entries waiting cells ≡ sample
   -- a nursery is made in tables of any content
-  made : newCall (5 ∷ 6 ∷ []) (7 ∷ []) (8 ∷ 9 ∷ [])
+  made : newCall promotionDelay (5 ∷ 6 ∷ []) (7 ∷ []) (8 ∷ 9 ∷ [])
       ≡ record {
-        result = record { answer = Taken; nursery = record { entries = 0; waiting = 0; «cell_bytes» = 0 } };
+        result = record { answer = Taken; nursery = record { entries = 0; waiting = 0; «cell_bytes» = 0; delay = promotionDelay } };
         entries = 0 ∷ 0 ∷ [];
         waiting = 0 ∷ [];
         cells = 0 ∷ 0 ∷ [];

@@ -18,15 +18,15 @@ use Rattle.base.specs.Bytes.{le32, le64, cut, readList}
 use Rattle.base.specs.Laws.{readLe-append}
 use Rattle.base.specs.Answers.{answerNumber, answerOf, orRefuse, _>>=_}
 use Rattle.base.specs.declared.Answer.the-variants.{Taken, Refused}
-use Rattle.base.specs.declared.Refusal.the-variants.{Present, OutputFull, Broken}
+use Rattle.base.specs.declared.Refusal.the-variants.{Present, OutputFull, Broken, BadSetting}
 use Rattle.cell_nursery.specs.declared.Nursery.{Nursery}
 use Rattle.cell_nursery.specs.Entries.{Entry, State, empty, hashBytes, insert, remove}
 use Rattle.cell_nursery.specs.Items.{Delta, itemBytes, readInsert, deltaOf}
 use Rattle.cell_nursery.specs.ItemLaws.{readHash-append}
 use Rattle.cell_nursery.specs.Delta.{Room, tooLong, applyDelta}
 use Rattle.cell_nursery.specs.Drain.{promotionDelay, drainBytes, listingBytes}
-use Rattle.cell_nursery.specs.Layout.{recordOf, entriesTable, waitingTable, cellsTable, roomOf}
-use Rattle.cell_nursery.specs.Calls.{Changed, DrainedOut, laidOut, onState, deltaCall, drainCall, lookupCall, listingCall}
+use Rattle.cell_nursery.specs.Layout.{recordOf, entriesTable, waitingTable, cellsTable, roomOf, delayInRange}
+use Rattle.cell_nursery.specs.Calls.{Changed, DrainedOut, laidOut, onState, newCall, deltaCall, drainCall, lookupCall, listingCall}
 use Rattle.cell_nursery.specs.Open.{evaluation}
 
 -- an entry of a hash, born at a round, with a cell of zeros
@@ -52,7 +52,7 @@ wideBytes e = hashBytes (e .hash) ++ le64 (e .idx) ++ le32 (e .born) ++ le32 (le
 -- a delta on a state in tables with room for some entries and some cell bytes
 abbrev deltaOn : State → ℕ → ℕ → List Entry → List ℕ → Changed
 deltaOn s room bytes is rs =
-    deltaCall (recordOf s) (entriesTable (8 * room) s) (waitingTable (5 * room) s) (cellsTable bytes s) false (length is) (length rs)
+    deltaCall (recordOf promotionDelay s) (entriesTable (8 * room) s) (waitingTable (5 * room) s) (cellsTable bytes s) false (length is) (length rs)
     (itemBytes (record { inserts = is; removes = rs }))
 
 -- the same as a number; and of one insert with a wide length, in tables with room for it and for no cell byte
@@ -60,7 +60,7 @@ abbrev delta : State → ℕ → ℕ → List Entry → List ℕ → ℕ
 delta s room bytes is rs = answerNumber (deltaOn s room bytes is rs .result .answer)
 
 abbrev wide : Entry → ℕ
-wide e = answerNumber (deltaCall (recordOf empty) (zeros 8) (zeros 5) [] true 1 0 (wideBytes e) .result .answer)
+wide e = answerNumber (deltaCall (recordOf promotionDelay empty) (zeros 8) (zeros 5) [] true 1 0 (wideBytes e) .result .answer)
 
 -- the number that the operation itself gives on some inserts: quicker where a cell is long
 abbrev applied : State → ℕ → ℕ → List Entry → ℕ
@@ -69,11 +69,11 @@ applied s room bytes is =
 
 -- the number that a delta of lent counts and items is answered with, in empty tables of given lengths
 abbrev items : ℕ → ℕ → ℕ → ℕ → ℕ → List ℕ → ℕ
-items le lw lc is rs bs = answerNumber (deltaCall (recordOf empty) (zeros le) (zeros lw) (zeros lc) false is rs bs .result .answer)
+items le lw lc is rs bs = answerNumber (deltaCall (recordOf promotionDelay empty) (zeros le) (zeros lw) (zeros lc) false is rs bs .result .answer)
 
 -- a draining of a state in tables that just fit n entries and no cell bytes
 abbrev drain : State → ℕ → ℕ → List ℕ → DrainedOut
-drain s n round out = drainCall promotionDelay (recordOf s) (entriesTable (8 * n) s) (waitingTable (5 * n) s) (cellsTable 0 s) round out
+drain s n round out = drainCall (recordOf promotionDelay s) (entriesTable (8 * n) s) (waitingTable (5 * n) s) (cellsTable 0 s) round out
 
 -- the nursery with the hash 1, born at round 0, with an empty cell
 abbrev one : State
@@ -102,10 +102,10 @@ pub record RefusalOrder : Type 0 where
   twelve-over-all : delta empty 0 0 (plain 1 ∷ plain 1 ∷ []) [] ≡ 12
   -- 20 comes before all others: a word past the rows, and a cell of 65,536 bytes
   broken-before-fourteen : (c : List ℕ) → length c ≡ 65536
-      → answerNumber (deltaCall (recordOf empty) (3 ∷ []) [] [] true 1 0 (wideBytes (holding 1 c)) .result .answer) ≡ 20
+      → answerNumber (deltaCall (recordOf promotionDelay empty) (3 ∷ []) [] [] true 1 0 (wideBytes (holding 1 c)) .result .answer) ≡ 20
   -- 15 comes last: the same word, and no output
-  broken-before-output : answerNumber (drainCall promotionDelay (recordOf one) (entriesTable 8 one ++ 3 ∷ []) (waitingTable 5 one) [] 100 [] .result .answer) ≡ 20
-  broken-before-listing : answerNumber (listingCall (recordOf one) (entriesTable 8 one ++ 3 ∷ []) [] [] .result .answer) ≡ 20
+  broken-before-output : answerNumber (drainCall (recordOf promotionDelay one) (entriesTable 8 one ++ 3 ∷ []) (waitingTable 5 one) [] 100 [] .result .answer) ≡ 20
+  broken-before-listing : answerNumber (listingCall (recordOf promotionDelay one) (entriesTable 8 one ++ 3 ∷ []) [] [] .result .answer) ≡ 20
 
 -- no cell of these entries is over 65,535 bytes
 abbrev Short : List Entry → Type 0
@@ -122,7 +122,7 @@ pub record RefusalBounds : Type 0 where
   full-waiting : items 16 9 0 2 0 (itemBytes (record { inserts = plain 1 ∷ plain 2 ∷ []; removes = [] })) ≡ 13
   not-full : items 16 10 0 2 0 (itemBytes (record { inserts = plain 1 ∷ plain 2 ∷ []; removes = [] })) ≡ 0
   -- 13: the smaller table counts after a draining too, as in a box read in every entry waits again
-  full-drained : answerNumber (deltaCall (recordOf drainedOne) (entriesTable 16 drainedOne) (waitingTable 5 drainedOne) [] false 1 0
+  full-drained : answerNumber (deltaCall (recordOf promotionDelay drainedOne) (entriesTable 16 drainedOne) (waitingTable 5 drainedOne) [] false 1 0
       (itemBytes (record { inserts = plain 2 ∷ []; removes = [] })) .result .answer) ≡ 13
   -- 13: cell bytes
   full-cells : delta empty 2 2 (entry 1 0 1 ∷ entry 2 0 2 ∷ []) [] ≡ 13
@@ -150,48 +150,48 @@ pub record RefusalBounds : Type 0 where
   -- a refused delta leaves the record and the tables; removing an absent hash does nothing
   unchanged : deltaOn one 2 0 (plain 2 ∷ plain 1 ∷ []) []
       ≡ record {
-        result = record { answer = Refused Present; nursery = recordOf one };
+        result = record { answer = Refused Present; nursery = recordOf promotionDelay one };
         entries = entriesTable 16 one;
         waiting = waitingTable 10 one;
         cells = [];
       }
   remove-absent : deltaOn one 1 0 [] (2 ∷ [])
-      ≡ record { result = record { answer = Taken; nursery = recordOf one }; entries = entriesTable 8 one; waiting = waitingTable 5 one; cells = [] }
+      ≡ record { result = record { answer = Taken; nursery = recordOf promotionDelay one }; entries = entriesTable 8 one; waiting = waitingTable 5 one; cells = [] }
   -- inserts precede removes: what a delta inserts and removes isn't there
   in-and-out : deltaOn empty 1 0 (plain 1 ∷ []) (1 ∷ [])
-      ≡ record { result = record { answer = Taken; nursery = recordOf empty }; entries = zeros 8; waiting = zeros 5; cells = [] }
+      ≡ record { result = record { answer = Taken; nursery = recordOf promotionDelay empty }; entries = zeros 8; waiting = zeros 5; cells = [] }
   -- a hash removed and put back with the same round is handed out once
   put-back : drainBytes promotionDelay 100 (insert (plain 1) (remove 1 one)) ≡ handed
   -- draining: round 99 gives nothing and needs no output
-  early : drain one 1 99 [] ≡ record { result = record { answer = Taken; len = 0; nursery = recordOf one }; out = []; waiting = waitingTable 5 one }
+  early : drain one 1 99 [] ≡ record { result = record { answer = Taken; len = 0; nursery = recordOf promotionDelay one }; out = []; waiting = waitingTable 5 one }
   -- 15: an output one byte too short: nothing is handed out, and the entry waits on
   drain-short : drain one 1 100 (replicate 41 9)
-      ≡ record { result = record { answer = Refused OutputFull; len = 0; nursery = recordOf one }; out = replicate 41 9; waiting = waitingTable 5 one }
+      ≡ record { result = record { answer = Refused OutputFull; len = 0; nursery = recordOf promotionDelay one }; out = replicate 41 9; waiting = waitingTable 5 one }
   -- an output with a byte beyond the answer: the entry stays and waits no more
   drain-long : drain one 1 100 (replicate 43 9)
       ≡ record {
-        result = record { answer = Taken; len = 42; nursery = record { entries = 1; waiting = 0; «cell_bytes» = 0 } };
+        result = record { answer = Taken; len = 42; nursery = record { entries = 1; waiting = 0; «cell_bytes» = 0; delay = promotionDelay } };
         out = handed ++ 9 ∷ [];
         waiting = zeros 5;
       }
   -- 15 in listing, and an output with a byte beyond the answer
-  listing-short : listingCall (recordOf one) (entriesTable 8 one) [] (replicate 45 9)
+  listing-short : listingCall (recordOf promotionDelay one) (entriesTable 8 one) [] (replicate 45 9)
       ≡ record { result = record { answer = Refused OutputFull; len = 0 }; out = replicate 45 9 }
-  listing-long : listingCall (recordOf one) (entriesTable 8 one) [] (replicate 47 9)
+  listing-long : listingCall (recordOf promotionDelay one) (entriesTable 8 one) [] (replicate 47 9)
       ≡ record { result = record { answer = Taken; len = 46 }; out = listed ++ 9 ∷ [] }
   -- a lookup: a hash that is there, one that is not, and broken tables
-  found : lookupCall (recordOf one) (entriesTable 8 one) 1 ≡ record { answer = Taken; found = true; idx = record { 0 = 7 } }
-  not-found : lookupCall (recordOf one) (entriesTable 8 one) 2 ≡ record { answer = Taken; found = false; idx = record { 0 = 0 } }
-  lookup-broken : lookupCall (recordOf one) (entriesTable 8 one ++ 3 ∷ []) 1
+  found : lookupCall (recordOf promotionDelay one) (entriesTable 8 one) 1 ≡ record { answer = Taken; found = true; idx = record { 0 = 7 } }
+  not-found : lookupCall (recordOf promotionDelay one) (entriesTable 8 one) 2 ≡ record { answer = Taken; found = false; idx = record { 0 = 0 } }
+  lookup-broken : lookupCall (recordOf promotionDelay one) (entriesTable 8 one ++ 3 ∷ []) 1
       ≡ record { answer = Refused Broken; found = false; idx = record { 0 = 0 } }
 
 -- a state record
 abbrev recordAt : ℕ → ℕ → ℕ → Nursery
-recordAt entries waiting bytes = record { entries = entries; waiting = waiting; «cell_bytes» = bytes }
+recordAt entries waiting bytes = record { entries = entries; waiting = waiting; «cell_bytes» = bytes; delay = promotionDelay }
 
 -- the number that a record and three tables are given: at a draining into 84 bytes, and at a delta that inserts the hash 2 with no cell bytes
 abbrev drainAt : ℕ → Nursery → List ℕ → List ℕ → List ℕ → ℕ
-drainAt round r es ws cs = answerNumber (drainCall promotionDelay r es ws cs round (zeros 84) .result .answer)
+drainAt round r es ws cs = answerNumber (drainCall r es ws cs round (zeros 84) .result .answer)
 
 abbrev insertInto : Nursery → List ℕ → List ℕ → List ℕ → ℕ
 insertInto r es ws cs = answerNumber (deltaCall r es ws cs false 1 0 (itemBytes (record { inserts = plain 2 ∷ []; removes = [] })) .result .answer)
@@ -250,6 +250,78 @@ pub record BrokenTables : Type 0 where
   other-round : insertInto (recordAt 1 1 0) (row 1 5 0 0 ++ zeros 8) (wait 0 1 ++ zeros 5) [] ≡ 20
   other-round-drained : drainAt (2 ^ 32 - 1) (recordAt 1 1 0) (row 1 5 0 0) (wait 0 1) [] ≡ 20
 
+-- what a nursery's making leaves in tables that have any content
+abbrev madeWith : ℕ → Changed
+madeWith delay = newCall delay (5 ∷ 6 ∷ []) (7 ∷ []) (8 ∷ 9 ∷ [])
+
+-- the number that `one` under a delay is given: at a lookup, a delta, a draining, and a listing
+abbrev lookupUnder : ℕ → ℕ
+lookupUnder delay = answerNumber (lookupCall (recordOf delay one) (entriesTable 8 one) 1 .answer)
+
+abbrev deltaUnder : ℕ → ℕ
+deltaUnder delay = insertInto (recordOf delay one) (entriesTable 16 one) (waitingTable 10 one) []
+
+abbrev drainUnder : ℕ → ℕ
+drainUnder delay = check (recordOf delay one) (entriesTable 8 one) (waitingTable 5 one) []
+
+abbrev listingUnder : ℕ → ℕ
+listingUnder delay = answerNumber (listingCall (recordOf delay one) (entriesTable 8 one) [] (zeros 46) .result .answer)
+
+-- the number and the length that a draining gives of one entry with an empty cell: by the delay, its born round and the round
+abbrev handedAt : ℕ → ℕ → ℕ → ℕ × ℕ
+handedAt delay born round =
+    let s : State = with (entry 1 born 0 ∷ []) in
+    let d = drainCall (recordOf delay s) (entriesTable 8 s) (waitingTable 5 s) [] round (zeros 42) .result in (answerNumber (d .answer), d .len)
+
+pub record SettingBounds : Type 0 where
+  -- a delay of 1 to 10,000 rounds
+  range-zero : delayInRange 0 ≡ false
+  range-least : delayInRange 1 ≡ true
+  range-most : delayInRange 10000 ≡ true
+  range-over : delayInRange 10001 ≡ false
+  -- 23: a nursery made with another; the record is of zeros, and the tables are as they were
+  made-zero : madeWith 0
+      ≡ record {
+        result = record { answer = Refused BadSetting; nursery = record { entries = 0; waiting = 0; «cell_bytes» = 0; delay = 0 } };
+        entries = 5 ∷ 6 ∷ [];
+        waiting = 7 ∷ [];
+        cells = 8 ∷ 9 ∷ [];
+      }
+  made-over : madeWith 10001
+      ≡ record {
+        result = record { answer = Refused BadSetting; nursery = record { entries = 0; waiting = 0; «cell_bytes» = 0; delay = 0 } };
+        entries = 5 ∷ 6 ∷ [];
+        waiting = 7 ∷ [];
+        cells = 8 ∷ 9 ∷ [];
+      }
+  made-number : answerNumber (madeWith 0 .result .answer) ≡ 23
+  made-least : madeWith 1 .result ≡ record { answer = Taken; nursery = record { entries = 0; waiting = 0; «cell_bytes» = 0; delay = 1 } }
+  made-most : madeWith 10000 .result ≡ record { answer = Taken; nursery = record { entries = 0; waiting = 0; «cell_bytes» = 0; delay = 10000 } }
+  -- 20: a record that has another, lent to a call
+  lookup-zero : lookupUnder 0 ≡ 20
+  lookup-least : lookupUnder 1 ≡ 0
+  lookup-most : lookupUnder 10000 ≡ 0
+  lookup-over : lookupUnder 10001 ≡ 20
+  delta-zero : deltaUnder 0 ≡ 20
+  delta-least : deltaUnder 1 ≡ 0
+  delta-most : deltaUnder 10000 ≡ 0
+  delta-over : deltaUnder 10001 ≡ 20
+  drain-zero : drainUnder 0 ≡ 20
+  drain-least : drainUnder 1 ≡ 0
+  drain-most : drainUnder 10000 ≡ 0
+  drain-over : drainUnder 10001 ≡ 20
+  listing-zero : listingUnder 0 ≡ 20
+  listing-over : listingUnder 10001 ≡ 20
+  -- an entry is handed out from its born round and the record's delay on; a last round and a delay are past every round
+  most-early : handedAt 10000 0 9999 ≡ (0, 0)
+  most-due : handedAt 10000 0 10000 ≡ (0, 42)
+  most-next-early : handedAt 10000 1 10000 ≡ (0, 0)
+  most-next-due : handedAt 10000 1 10001 ≡ (0, 42)
+  least-early : handedAt 1 0 0 ≡ (0, 0)
+  least-due : handedAt 1 0 1 ≡ (0, 42)
+  last-round : handedAt 1 (2 ^ 32 - 1) (2 ^ 32 - 1) ≡ (0, 0)
+  last-but-one : handedAt 1 (2 ^ 32 - 2) (2 ^ 32 - 1) ≡ (0, 42)
+
 -- a delta with a long cell is given 14, whatever else is true of it
 long-first : (m : Room) (s : State) (d : Delta) → tooLong d ≡ true → answerNumber (answerOf (applyDelta m s d)) ≡ 14
 unfolding evaluation
@@ -285,7 +357,7 @@ wide-read c h =
 too-long : (c : List ℕ) → length c ≡ 65536 → wide (holding 1 c) ≡ 14
 unfolding evaluation
 too-long c h =
-    ap (λ (d : Option Delta). answerNumber (laidOut (recordOf empty) (zeros 8) (zeros 5) [] (onState (recordOf empty) (zeros 8) (zeros 5) [] (λ s. orRefuse Broken d >>= applyDelta (roomOf (zeros 8) (zeros 5) []) s)) .result .answer)) (wide-read c h)
+    ap (λ (d : Option Delta). answerNumber (laidOut promotionDelay (recordOf promotionDelay empty) (zeros 8) (zeros 5) [] (onState (recordOf promotionDelay empty) (zeros 8) (zeros 5) [] (λ s. orRefuse Broken d >>= applyDelta (roomOf (zeros 8) (zeros 5) []) s)) .result .answer)) (wide-read c h)
     ∙ rw h refl
 
 pub refusal-bounds : RefusalBounds
@@ -365,4 +437,41 @@ broken-tables =
       twice-drained = refl;
       other-round = refl;
       other-round-drained = refl;
+    }
+
+pub setting-bounds : SettingBounds
+unfolding evaluation
+setting-bounds =
+    record {
+      range-zero = refl;
+      range-least = refl;
+      range-most = refl;
+      range-over = refl;
+      made-zero = refl;
+      made-over = refl;
+      made-number = refl;
+      made-least = refl;
+      made-most = refl;
+      lookup-zero = refl;
+      lookup-least = refl;
+      lookup-most = refl;
+      lookup-over = refl;
+      delta-zero = refl;
+      delta-least = refl;
+      delta-most = refl;
+      delta-over = refl;
+      drain-zero = refl;
+      drain-least = refl;
+      drain-most = refl;
+      drain-over = refl;
+      listing-zero = refl;
+      listing-over = refl;
+      most-early = refl;
+      most-due = refl;
+      most-next-early = refl;
+      most-next-due = refl;
+      least-early = refl;
+      least-due = refl;
+      last-round = refl;
+      last-but-one = refl;
     }

@@ -201,29 +201,29 @@ map-drop zero xs = refl
 map-drop (suc j) [] = refl
 map-drop (suc j) (w ∷ xs) = map-drop j xs
 
-module _ (delay round : ℕ) (r : Nursery) (es ws cs : List ℕ) where
-  pub drain-broken : (out : List ℕ) → holds r es ws cs ≡ false → drainEffect (record { answer = Refused Broken; len = 0; nursery = r }) out ws ≡ drainCall delay r es ws cs round out
+module _ (round : ℕ) (r : Nursery) (es ws cs : List ℕ) where
+  pub drain-broken : (out : List ℕ) → holds r es ws cs ≡ false → drainEffect (record { answer = Refused Broken; len = 0; nursery = r }) out ws ≡ drainCall r es ws cs round out
   unfolding drainCall drainedOut onState fitting
   drain-broken out e = rw e
 
-  module _ (x : EntriesHeld r es) (y : WaitingHeld r ws) (z : CellsHeld r cs) (k : ℕ) (number : k ≡ length (keep (due delay round) (waitingOf (r .waiting) ws))) where
-    pub drain-bytes : drainBytes delay round (stateOf r es ws cs) ≡ flat (handedOut (entriesOf (r .entries) es cs)) (take k (waitingOf (r .waiting) ws))
+  module _ (x : EntriesHeld r es) (y : WaitingHeld r ws) (z : CellsHeld r cs) (k : ℕ) (number : k ≡ length (keep (due (r .delay) round) (waitingOf (r .waiting) ws))) where
+    pub drain-bytes : drainBytes (r .delay) round (stateOf r es ws cs) ≡ flat (handedOut (entriesOf (r .entries) es cs)) (take k (waitingOf (r .waiting) ws))
     unfolding drainBytes promoted stateOf
     drain-bytes =
-        flat-flat promotedBytes (named (entriesOf (r .entries) es cs)) (keep (due delay round) (waitingOf (r .waiting) ws))
-        ∙ ap (flat (handedOut (entriesOf (r .entries) es cs))) (due-take delay round r ws y k number)
+        flat-flat promotedBytes (named (entriesOf (r .entries) es cs)) (keep (due (r .delay) round) (waitingOf (r .waiting) ws))
+        ∙ ap (flat (handedOut (entriesOf (r .entries) es cs))) (due-take (r .delay) round r ws y k number)
 
-    after : recordOf (drained delay round (stateOf r es ws cs)) ≡ record { entries = r .entries; waiting = r .waiting - k; «cell_bytes» = r .«cell_bytes» }
+    after : recordOf (r .delay) (drained (r .delay) round (stateOf r es ws cs)) ≡ record { entries = r .entries; waiting = r .waiting - k; «cell_bytes» = r .«cell_bytes»; delay = r .delay }
     unfolding recordOf drained stateOf
     after =
-        rw (due-drop delay round r ws y k number, number-entries r es cs, bytes-same r es cs x z, length-drop k (waitingOf (r .waiting) ws), number-waiting r ws)
+        rw (due-drop (r .delay) round r ws y k number, number-entries r es cs, bytes-same r es cs x z, length-drop k (waitingOf (r .waiting) ws), number-waiting r ws)
 
     -- the rows behind at the front, and zeros
-    table-after : U64 ws → take 0 ws ++ (take (r .waiting * 5 - (0 + k * 5)) (drop (0 + k * 5) ws) ++ (zeros (k * 5) ++ drop (r .waiting * 5) ws)) ≡ waitingTable (length ws) (drained delay round (stateOf r es ws cs))
+    table-after : U64 ws → take 0 ws ++ (take (r .waiting * 5 - (0 + k * 5)) (drop (0 + k * 5) ws) ++ (zeros (k * 5) ++ drop (r .waiting * 5) ws)) ≡ waitingTable (length ws) (drained (r .delay) round (stateOf r es ws cs))
     unfolding waitingTable drained stateOf tableOf
     table-after v =
         let n = r .waiting in
-        let l = due-within delay round r ws y k number in
+        let l = due-within (r .delay) round r ws y k number in
         let f = y .laid .fits in
         let rows : map waitingRowOf (drop k (waitingOf n ws)) ≡ rowsOf waitingRow (n - k) (drop (k * 5) ws) =
         sym (map-drop k (waitingOf n ws)) ∙ ap (drop k) (waiters-same r ws v) ∙ drop-rowsOf waitingRow k n ws l in
@@ -232,16 +232,16 @@ module _ (delay round : ℕ) (r : Nursery) (es ws cs : List ℕ) where
         let c : k * 5 + (length ws - n * 5) ≡ length ws - (n - k) * 5 = omega arith in
         let m : (n - k) * 5 ≤ length (drop (k * 5) ws) = simp length-drop (omega arith) in
         let wide : length (rowsOf waitingRow (n - k) (drop (k * 5) ws)) ≡ n - k = length-rowsOf waitingRow (n - k) (drop (k * 5) ws) in
-        rw (due-drop delay round r ws y k number, rows, words-rowsOf waiting-lawful (n - k) (drop (k * 5) ws) m, wide, a, b, y .laid .rest, replicate-append-replicate {A = ℕ} (k * 5) (length ws - n * 5) 0, c)
+        rw (due-drop (r .delay) round r ws y k number, rows, words-rowsOf waiting-lawful (n - k) (drop (k * 5) ws) m, wide, a, b, y .laid .rest, replicate-append-replicate {A = ℕ} (k * 5) (length ws - n * 5) 0, c)
 
     module _ (out : List ℕ) (ok : holds r es ws cs ≡ true) where
       pub drain-full : length out < length (flat (handedOut (entriesOf (r .entries) es cs)) (take k (waitingOf (r .waiting) ws)))
-          → drainEffect (record { answer = Refused OutputFull; len = 0; nursery = r }) out ws ≡ drainCall delay r es ws cs round out
+          → drainEffect (record { answer = Refused OutputFull; len = 0; nursery = r }) out ws ≡ drainCall r es ws cs round out
       unfolding drainCall drainedOut onState fitting
       drain-full l = rw (ok, drain-bytes, lt-ltb (length out) (length (flat (handedOut (entriesOf (r .entries) es cs)) (take k (waitingOf (r .waiting) ws)))) l)
 
       pub drain-done : U64 ws → (bs : List ℕ) → bs ≡ flat (handedOut (entriesOf (r .entries) es cs)) (take k (waitingOf (r .waiting) ws)) → length bs ≤ length out
-          → drainEffect (record { answer = Taken; len = length bs; nursery = record { entries = r .entries; waiting = r .waiting - k; «cell_bytes» = r .«cell_bytes» } }) (overlay bs out) (take 0 ws ++ (take (r .waiting * 5 - (0 + k * 5)) (drop (0 + k * 5) ws) ++ (zeros (k * 5) ++ drop (r .waiting * 5) ws)))
-          ≡ drainCall delay r es ws cs round out
+          → drainEffect (record { answer = Taken; len = length bs; nursery = record { entries = r .entries; waiting = r .waiting - k; «cell_bytes» = r .«cell_bytes»; delay = r .delay } }) (overlay bs out) (take 0 ws ++ (take (r .waiting * 5 - (0 + k * 5)) (drop (0 + k * 5) ws) ++ (zeros (k * 5) ++ drop (r .waiting * 5) ws)))
+          ≡ drainCall r es ws cs round out
       unfolding drainCall drainedOut onState fitting
       drain-done v bs e l = rw (ok, drain-bytes, ← e, le-ltb (length out) (length bs) l, after, ← table-after v)
