@@ -49,7 +49,7 @@ fn put_rows(t: &mut [u64], n: usize, b: &[u64]) -> usize
 // Applies the kept transitions of a batch that is judged good. Those that leave no row go first, so that no row lacks room.
 pub fn apply_kept(c: Counters, t: &mut [u64], b: &[u64]) -> Counters
     requires { ⌜ Judged c (now t) (now b) ⌝ }
-    ensures { λ r. ⌜ (r ≡ recordOf (stateAfter (kept (transitions (now (b .entry)))) (stateOf c (now (t .entry))))) × (now (t .exit) ≡ layout.tableOf (length (now (t .entry))) (stateAfter (kept (transitions (now (b .entry)))) (stateOf c (now (t .entry))))) ⌝ }
+    ensures { λ r. ⌜ (r ≡ recordOf (c .settings) (stateAfter (kept (transitions (now (b .entry)))) (stateOf c (now (t .entry))))) × (now (t .exit) ≡ layout.tableOf (length (now (t .entry))) (stateAfter (kept (transitions (now (b .entry)))) (stateOf c (now (t .entry))))) ⌝ }
 {
     let n = c.stored;
     let live = c.live_cells + counter_steps::tally(b, Kind::Birth)
@@ -58,10 +58,12 @@ pub fn apply_kept(c: Counters, t: &mut [u64], b: &[u64]) -> Counters
     let m = counter_steps::maintained_by(b, maintenance);
     let freed = drop_rows(t, n, b);
     let stored = put_rows(t, freed, b);
+    let settings = c.settings;
     Counters {
         next_idx: NextIdx(c.next_idx.0),
         live_cells: live,
         stored,
         maintenance: m,
+        settings,
     }
 }

@@ -40,7 +40,7 @@ fn exceeds(t: &[u64], n: usize, rises: u64, falls: u64) -> bool
 // A batch that passed every test is taken.
 fn taken(c: Counters, t: &mut [u64], b: &[u64]) -> Applied
     requires { ⌜ Judged c (now t) (now b) ⌝ }
-    ensures { λ r. ⌜ (r .answer ≡ Taken) × (r .counters ≡ recordOf (stateAfter (kept (transitions (now (b .entry)))) (stateOf c (now (t .entry))))) × (now (t .exit) ≡ layout.tableOf (length (now (t .entry))) (stateAfter (kept (transitions (now (b .entry)))) (stateOf c (now (t .entry))))) ⌝ }
+    ensures { λ r. ⌜ (r .answer ≡ Taken) × (r .counters ≡ recordOf (c .settings) (stateAfter (kept (transitions (now (b .entry)))) (stateOf c (now (t .entry))))) × (now (t .exit) ≡ layout.tableOf (length (now (t .entry))) (stateAfter (kept (transitions (now (b .entry)))) (stateOf c (now (t .entry))))) ⌝ }
 {
     let counters = counter_apply::apply_kept(c, t, b);
     Applied {

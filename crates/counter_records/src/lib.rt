@@ -34,11 +34,13 @@ fn finish(s: Walk) -> Applied
     let c = s.counters;
     let answer = s.answer;
     let maintenance = c.maintenance;
+    let settings = c.settings;
     let counters = Counters {
         next_idx: NextIdx(c.next_idx.0),
         live_cells: c.live_cells,
         stored: s.rows,
         maintenance,
+        settings,
     };
     Applied { answer, counters }
 }

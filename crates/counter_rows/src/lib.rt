@@ -29,10 +29,14 @@ fn all_sound(t: &[u64], n: usize, next: u64) -> bool
     true
 }
 
-// Whether the record and the table are those of a state: no more rows than cells, and a pass over the table.
+// Whether the record and the table are those of a state: settings in their ranges, no more rows than cells, and a pass over the table.
 pub fn holds(c: Counters, t: &[u64]) -> bool
     ensures { λ r. ⌜ r ≡ layout.holds c (now (t .entry)) ⌝ }
 {
+    let settings = c.settings;
+    if !shrink_rules::in_range(settings) {
+        return false;
+    }
     let n = c.stored;
     if c.live_cells < n as u64 {
         return false;

@@ -3,6 +3,7 @@ use base::Answer;
 use base::Refusal;
 use counters::CounterMaintenance;
 use counters::Counters;
+use counters::ShrinkSettings;
 use counters::Shrunk;
 ghost use mathlib.Core.Path.{_≡_};
 ghost use mathlib.Core.Bool.{true};
@@ -14,7 +15,7 @@ ghost use Rattle.counters.specs.Counts as counts;
 ghost use Rattle.counters.specs.Layout.{countRow};
 ghost use Rattle.counters.specs.Layout as layout;
 ghost use Rattle.counters.specs.Calls.{shrinkCall};
-ghost use Rattle.counters.specs.Maintenance.{standard, setMinimum, shouldShrink, setsShrink, resetWhere, shrunk};
+ghost use Rattle.counters.specs.Maintenance.{setMinimum, shouldShrink, setsShrink, resetWhere, shrunk};
 
 // A set doesn't shrink before so many removals.
 const SET_MINIMUM: u64 = 65_536;
@@ -70,11 +71,12 @@ fn reset_where(small: [bool; 8], removed: [u64; 8]) -> [u64; 8]
 // Maintenance after the decisions. A yes sets its removal count to 0, and the threshold moves after an alive yes only.
 fn maintenance_after(
     m: CounterMaintenance,
+    settings: ShrinkSettings,
     alive: bool,
     small: [bool; 8],
     saved: u64,
 ) -> CounterMaintenance
-    ensures { λ r. ⌜ r ≡ shrunk standard saved (record { alive = alive; small = small }) m ⌝ }
+    ensures { λ r. ⌜ r ≡ shrunk settings saved (record { alive = alive; small = small }) m ⌝ }
 {
     let removed = m.small_removed_since_shrink;
     let left = reset_where(small, removed);
@@ -82,7 +84,7 @@ fn maintenance_after(
     after.alive_removed_since_shrink = left_after(alive, m.alive_removed_since_shrink);
     after.small_removed_since_shrink = left;
     if alive {
-        return shrink_rules::adjust_shrink_threshold(after, saved);
+        return shrink_rules::adjust_shrink_threshold(after, settings, saved);
     }
     after
 }
@@ -90,10 +92,11 @@ fn maintenance_after(
 // The shrink decisions over a table that holds a state, and the record after them.
 pub fn shrink_held(c: Counters, t: &[u64], saved: u64) -> Shrunk
     requires { ⌜ layout.holds c (now t) ≡ true ⌝ }
-    ensures { λ r. ⌜ r ≡ shrinkCall standard c (now (t .entry)) saved ⌝ }
+    ensures { λ r. ⌜ r ≡ shrinkCall c (now (t .entry)) saved ⌝ }
 {
     let n = c.stored;
     let m = c.maintenance;
+    let settings = c.settings;
     let removed = m.small_removed_since_shrink;
     let small = sets_shrink(t, n, removed);
     let alive = shrink_rules::should_shrink(
@@ -102,7 +105,7 @@ pub fn shrink_held(c: Counters, t: &[u64], saved: u64) -> Shrunk
         m.min_alive_removed_before_shrink,
     );
     let mut counters = c;
-    counters.maintenance = maintenance_after(m, alive, small, saved);
+    counters.maintenance = maintenance_after(m, settings, alive, small, saved);
     Shrunk {
         answer: Answer::Taken,
         alive,
@@ -113,7 +116,7 @@ pub fn shrink_held(c: Counters, t: &[u64], saved: u64) -> Shrunk
 
 // The shrink decisions, over a table that is checked first. saved is the bytes that the alive shrink saves.
 pub fn shrink_if_needed(c: Counters, t: &[u64], saved: u64) -> Shrunk
-    ensures { λ r. ⌜ r ≡ shrinkCall standard c (now (t .entry)) saved ⌝ }
+    ensures { λ r. ⌜ r ≡ shrinkCall c (now (t .entry)) saved ⌝ }
 {
     if !counter_rows::holds(c, t) {
         return Shrunk {

@@ -71,8 +71,8 @@ module _ (c : Counters) (t ws : List ℕ) (j : Judged c t ws) where
     module _ (live m : ℕ) (after : CounterMaintenance) (total-is : live ≡ c .«live_cells» + length (keep birth (kept (transitions ws))) - length (keep death (kept (transitions ws))))
         (after-is : after ≡ maintained (kept (transitions ws)) (c .maintenance))
         (number-is : m ≡ length (countsAfter (passOf true (transitions ws)) (rowsOf countRow n t′))) where
-      pub record-after : record { «next_idx» = record { 0 = c .«next_idx» .0 }; «live_cells» = live; stored = m; maintenance = after }
-          ≡ recordOf (stateAfter (kept (transitions ws)) (stateOf c t))
+      pub record-after : record { «next_idx» = record { 0 = c .«next_idx» .0 }; «live_cells» = live; stored = m; maintenance = after; settings = c .settings }
+          ≡ recordOf (c .settings) (stateAfter (kept (transitions ws)) (stateOf c t))
       unfolding recordOf stateAfter stateOf births deaths
       record-after = rw (total-is, after-is, number-is, rows-same, both)
 

@@ -78,7 +78,7 @@ pub record Asking (c : Counters) (t₀ : List ℕ) (bs : List CounterTransition)
 -- the batch passed every test
 pub record Passed (c : Counters) (t₀ : List ℕ) (bs : List CounterTransition) : Type 0 where
   pub judged : Judged c t₀ (wordsOf bs)
-  pub gives : effect (record { answer = Taken; counters = recordOf (stateAfter (kept bs) (stateOf c t₀)) }) (tableOf (length t₀) (stateAfter (kept bs) (stateOf c t₀))) ≡ batchCall c t₀ (wordsOf bs)
+  pub gives : effect (record { answer = Taken; counters = recordOf (c .settings) (stateAfter (kept bs) (stateOf c t₀)) }) (tableOf (length t₀) (stateAfter (kept bs) (stateOf c t₀))) ≡ batchCall c t₀ (wordsOf bs)
 
 -- the record after the batch, but for its number of rows
 abbrev pub almostAfter : Counters → List CounterTransition → Counters
@@ -88,6 +88,7 @@ almostAfter c bs =
       «live_cells» = c .«live_cells» + births (kept bs) - deaths (kept bs);
       stored = c .stored;
       maintenance = maintained (kept bs) (c .maintenance);
+      settings = c .settings;
     }
 
 -- the counts that a pass leads to

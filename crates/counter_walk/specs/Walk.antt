@@ -111,6 +111,7 @@ accepted s =
             «live_cells» = s .counters .«live_cells» + s .sums .births - s .sums .deaths;
             stored = s .counters .stored;
             maintenance = s .sums .maintenance;
+            settings = s .counters .settings;
           };
     }
 
@@ -219,6 +220,7 @@ finished s =
             «live_cells» = s .counters .«live_cells»;
             stored = s .rows;
             maintenance = s .counters .maintenance;
+            settings = s .counters .settings;
           };
     }
 

@@ -171,11 +171,13 @@ fn accepted(s: Walk) -> Walk
     let sums = s.sums;
     let c = s.counters;
     let maintenance = sums.maintenance;
+    let settings = c.settings;
     let counters = Counters {
         next_idx: NextIdx(c.next_idx.0),
         live_cells: c.live_cells + sums.births - sums.deaths,
         stored: c.stored,
         maintenance,
+        settings,
     };
     Walk {
         phase: first_phase(s.len),

@@ -47,12 +47,12 @@ same-length c = search needs
 
 returns : tie.Need-returns
 returns c =
-    let g = c .before .before .put-rows in
-    let f = c .before .before .before .before .before .before .drop-rows in
-    let m = c .before .before .before .before .before .before .before .before .maintained-by in
-    let d = c .before .before .before .before .before .before .before .before .before .before .tally2 in
-    let a = c .before .before .before .before .before .before .before .before .before .before .before .before .tally in
-    let s = c .before .before .before .before .before .before .before .before .before .before .before .before .before .before .before in (
+    let g = c .before .before .before .put-rows in
+    let f = c .before .before .before .before .before .before .before .drop-rows in
+    let m = c .before .before .before .before .before .before .before .before .before .maintained-by in
+    let d = c .before .before .before .before .before .before .before .before .before .before .before .tally2 in
+    let a = c .before .before .before .before .before .before .before .before .before .before .before .before .before .tally in
+    let s = c .before .before .before .before .before .before .before .before .before .before .before .before .before .before .before .before in (
       record-after (s .args .c) (s .args .t .now) (s .args .b .now) (s .pre) (f .result) _ (f .ensures .0) (f .ensures .1) _ (g .result) (m .result) (rw (a .ensures, d .ensures)) (m .ensures) (g .ensures .0),
       table-after (s .args .c) (s .args .t .now) (s .args .b .now) (s .pre) (f .result) _ (f .ensures .0) (f .ensures .1) _ (g .ensures .1),
     )

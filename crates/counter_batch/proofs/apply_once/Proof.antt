@@ -98,7 +98,8 @@ few-cells-requires c κs =
     let z = c .before .before .before .before .tally3 in
     let w = c .before .before .before .tally4 in
     let n = total-left (a .c .«live_cells») (x .result) (y .result) (sym (c .before .before .before .before .before .before .off-total .ensures) ∙ c .before .before .before .before .before .if2 .left) in
-    (omega (arith, n .0), omega (arith, n .1), room-asks (a .c) (a .t .now) (a .b .now) (p .0) (p .1) (p .2) (p .3) o (z .result) (w .result) (z .ensures) (w .ensures) (search needs) (search needs) .0)
+    let g = c .before .before .before .before .before .before .before .before .before .before .before .before .before .before .good in
+    (omega (arith, n .0), omega (arith, n .1), room-asks (a .c) (a .t .now) (a .b .now) (p .0) (p .1) (p .2) (p .3) o (z .result) (w .result) (z .ensures) (w .ensures) (omega (arith, g .1 .1 .0)) (omega (arith, g .1 .0)) .0)
 
 refused-requires-4 : tie.Need-refused-requires-4
 refused-requires-4 c κs = search needs

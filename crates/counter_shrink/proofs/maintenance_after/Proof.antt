@@ -18,13 +18,13 @@ returns c =
     let w = c .before .before .before in
     let a = w .before .before .args in
     c .adjust-shrink-threshold .ensures
-    ∙ after-yes (a .saved) (a .alive) (a .small) (a .m) (c .before .before .left-after .result) (w .reset-where .result) (c .before .before .left-after .ensures) (w .reset-where .ensures) (c .before .if1 .taken)
+    ∙ after-yes (a .settings) (a .saved) (a .alive) (a .small) (a .m) (c .before .before .left-after .result) (w .reset-where .result) (c .before .before .left-after .ensures) (w .reset-where .ensures) (c .before .if1 .taken)
 
 returns-2 : tie.Need-returns-2
 returns-2 c =
     let w = c .before .before in
     let a = w .before .before .args in
-    after-no (a .saved) (a .alive) (a .small) (a .m) (c .before .left-after .result) (w .reset-where .result) (c .before .left-after .ensures) (w .reset-where .ensures) (c .if1 .left)
+    after-no (a .settings) (a .saved) (a .alive) (a .small) (a .m) (c .before .left-after .result) (w .reset-where .result) (c .before .left-after .ensures) (w .reset-where .ensures) (c .if1 .left)
 
 pub maintenance-after-spec : {M : Type 1} → statement M
 maintenance-after-spec =
