@@ -9,9 +9,11 @@ use Rattle.base.specs.Logic.{flat, from, zeros}
 use Rattle.base.specs.Bytes.{le64}
 use Rattle.base.specs.Answers.{answerNumber, taken}
 use Rattle.base.specs.declared.Answer.the-variants.{Taken, Refused}
-use Rattle.base.specs.declared.Refusal.the-variants.{TornSnapshot, TierClash, OutputFull}
+use Rattle.base.specs.declared.Refusal.the-variants.{TornSnapshot, TierClash, OutputFull, BadSetting}
 use Rattle.roaring.specs.Write.{write64}
+use Rattle.counters.specs.declared.ShrinkSettings.{ShrinkSettings}
 use Rattle.counters.specs.declared.Counters.{Counters}
+use Rattle.counters.specs.Maintenance.{standard}
 use Rattle.counters.specs.Counts.{State, freshMaintenance}
 use Rattle.snapshot.specs.Write.{snapshotBytes}
 use Rattle.snapshot.specs.Read.{readSnapshot}
@@ -51,18 +53,30 @@ unsetOf next live rest = headOf 1 next live ++ blank 8 ++ rest
 
 -- the number that reading bytes into a table is answered with
 abbrev read : List ℕ → List ℕ → ℕ
-read bs t = answerNumber (deserializeCall 0 bs t .result .answer)
+read bs t = answerNumber (deserializeCall standard bs t .result .answer)
 
 -- a state record at a next index and a live total that tells of some rows
 abbrev recordWith : ℕ → ℕ → ℕ → ℕ → Counters
-recordWith base next live stored = record { «next_idx» = record { 0 = next }; «live_cells» = live; stored = stored; maintenance = freshMaintenance base }
+recordWith base next live stored =
+    record { «next_idx» = record { 0 = next }; «live_cells» = live; stored = stored; maintenance = freshMaintenance base; settings = standard }
+
+-- a state record that is all zeros
+abbrev none : Counters
+none =
+    record {
+      «next_idx» = record { 0 = 0 };
+      «live_cells» = 0;
+      stored = 0;
+      maintenance = freshMaintenance 0;
+      settings = record { base = 0; max = 0; «good_save» = 0 };
+    }
 
 abbrev recordAt : ℕ → ℕ → ℕ → Counters
 recordAt base next stored = recordWith base next 2 stored
 
 -- the number that loading bytes into a table is answered with
 abbrev load : List ℕ → List ℕ → ℕ
-load bs t = answerNumber (loadCall 0 bs t .result .answer)
+load bs t = answerNumber (loadCall standard bs t .result .answer)
 
 pub record RefusalOrder : Type 0 where
   -- an empty snapshot comes before its version
@@ -122,11 +136,11 @@ pub record RefusalBounds : Type 0 where
   repeated-enough : read (unsetOf 1 1 (big 0 258 ++ big 0 257)) (zeros 2) ≡ 0
   -- a repeated large index is no clash, takes the last count and needs one row;
   -- the table may have any content, so that 20 is never given
-  repeated : deserializeCall 131072 (unset 1 (big 0 258 ++ big 0 257)) (9 ∷ 9 ∷ 9 ∷ [])
+  repeated : deserializeCall standard (unset 1 (big 0 258 ++ big 0 257)) (9 ∷ 9 ∷ 9 ∷ [])
       ≡ record { result = record { answer = Taken; counters = recordAt 131072 1 1 }; table = 0 ∷ 257 ∷ 0 ∷ [] }
   -- a refusal leaves the table, and its record is all zeros
-  unchanged : deserializeCall 131072 [] (9 ∷ 9 ∷ 9 ∷ [])
-      ≡ record { result = record { answer = Refused TornSnapshot; counters = recordWith 0 0 0 0 }; table = 9 ∷ 9 ∷ 9 ∷ [] }
+  unchanged : deserializeCall standard [] (9 ∷ 9 ∷ 9 ∷ [])
+      ≡ record { result = record { answer = Refused TornSnapshot; counters = none }; table = 9 ∷ 9 ∷ 9 ∷ [] }
   -- 15: an output one byte too short, which isn't touched; one that fits, and one with a byte beyond the answer
   output-short : serializeCall (recordAt 0 0 0) [] (replicate 144 9)
       ≡ record { result = record { answer = Refused OutputFull; len = 0 }; out = replicate 144 9 }
@@ -136,22 +150,61 @@ pub record RefusalBounds : Type 0 where
 
 pub record LoadLines : Type 0 where
   -- a total below the stored counts is raised to them, and told
-  raises : loadCall 131072 (unsetOf 2 0 (big 0 257)) (9 ∷ 9 ∷ 9 ∷ [])
+  raises : loadCall standard (unsetOf 2 0 (big 0 257)) (9 ∷ 9 ∷ 9 ∷ [])
       ≡ record { result = record { answer = Taken; counters = recordWith 131072 2 1 1; «old_total» = 0 }; table = 0 ∷ 257 ∷ 0 ∷ [] }
   -- one that is enough stays, and is told too
-  keeps : loadCall 131072 (unsetOf 2 7 (big 0 257)) (zeros 2)
+  keeps : loadCall standard (unsetOf 2 7 (big 0 257)) (zeros 2)
       ≡ record { result = record { answer = Taken; counters = recordWith 131072 2 7 1; «old_total» = 7 }; table = 0 ∷ 257 ∷ [] }
   -- a repeated large index is one count: the total is raised to 2, not to 3
-  repeated-raises : loadCall 0 (unsetOf 2 1 (big 0 258 ++ big 1 257 ++ big 0 257)) (zeros 4)
-      ≡ record { result = record { answer = Taken; counters = recordWith 0 2 2 2; «old_total» = 1 }; table = 0 ∷ 257 ∷ 1 ∷ 257 ∷ [] }
+  repeated-raises : loadCall standard (unsetOf 2 1 (big 0 258 ++ big 1 257 ++ big 0 257)) (zeros 4)
+      ≡ record { result = record { answer = Taken; counters = recordWith 131072 2 2 2; «old_total» = 1 }; table = 0 ∷ 257 ∷ 1 ∷ 257 ∷ [] }
   -- the refusals of reading but 25
   refuses-six : load (unsetOf 1 0 (big 0 257)) [] ≡ 6
   refuses-eleven : load (unsetOf 0 0 (big 0 257)) (zeros 2) ≡ 11
   refuses-ten : load (unsetOf 1 0 (big 0 256)) (zeros 2) ≡ 10
   refuses-seven : load (2 ∷ []) [] ≡ 7
   -- one leaves the table, its record is all zeros, and the total beside it is 0
-  refused-whole : loadCall 131072 (unsetOf 0 7 (big 0 257)) (9 ∷ 9 ∷ [])
-      ≡ record { result = record { answer = Refused TierClash; counters = recordWith 0 0 0 0; «old_total» = 0 }; table = 9 ∷ 9 ∷ [] }
+  refused-whole : loadCall standard (unsetOf 0 7 (big 0 257)) (9 ∷ 9 ∷ [])
+      ≡ record { result = record { answer = Refused TierClash; counters = none; «old_total» = 0 }; table = 9 ∷ 9 ∷ [] }
+
+-- shrink settings: base, maximum, good save
+abbrev shrink : ℕ → ℕ → ℕ → ShrinkSettings
+shrink base max save = record { base = base; max = max; «good_save» = save }
+
+-- the numbers that reading and loading bytes under some settings are answered with
+abbrev readWith : ShrinkSettings → List ℕ → List ℕ → ℕ
+readWith g bs t = answerNumber (deserializeCall g bs t .result .answer)
+
+abbrev loadWith : ShrinkSettings → List ℕ → List ℕ → ℕ
+loadWith g bs t = answerNumber (loadCall g bs t .result .answer)
+
+pub record SettingLines : Type 0 where
+  -- 23 before an empty snapshot and before another version
+  twenty-three-before-eight : readWith (shrink 0 5 0) [] [] ≡ 23
+  twenty-three-before-seven : readWith (shrink 6 5 0) (2 ∷ []) [] ≡ 23
+  load-before-eight : loadWith (shrink 0 5 0) [] [] ≡ 23
+  load-before-seven : loadWith (shrink 6 5 0) (2 ∷ []) [] ≡ 23
+  -- a good snapshot too; the base is from 1 to the maximum
+  base-none : readWith (shrink 0 5 0) (unset 0 []) [] ≡ 23
+  base-max : readWith (shrink 5 5 0) (unset 0 []) [] ≡ 0
+  base-above : readWith (shrink 6 5 0) (unset 0 []) [] ≡ 23
+  load-max : loadWith (shrink 5 5 0) (unset 0 []) [] ≡ 0
+  load-above : loadWith (shrink 6 5 0) (unset 0 []) [] ≡ 23
+  -- it leaves the table, its record is all zeros, and the total beside it is 0
+  not-read : deserializeCall (shrink 6 5 4) (unset 1 (big 0 257)) (9 ∷ 9 ∷ [])
+      ≡ record { result = record { answer = Refused BadSetting; counters = none }; table = 9 ∷ 9 ∷ [] }
+  not-loaded : loadCall (shrink 6 5 4) (unset 1 (big 0 257)) (9 ∷ 9 ∷ [])
+      ≡ record { result = record { answer = Refused BadSetting; counters = none; «old_total» = 0 }; table = 9 ∷ 9 ∷ [] }
+  -- the settings go into the record, and the threshold starts at the base
+  settings-read : deserializeCall (shrink 4 5 6) (unset 1 (big 0 257)) (9 ∷ 9 ∷ [])
+      ≡ record {
+        result =
+            record {
+              answer = Taken;
+              counters = record { «next_idx» = record { 0 = 1 }; «live_cells» = 2; stored = 1; maintenance = freshMaintenance 4; settings = shrink 4 5 6 };
+            };
+        table = 0 ∷ 257 ∷ [];
+      }
 
 -- next index 772, live total 1541, count 3 at index 5 (code 2: set 1), count 770 at index 6
 abbrev sample : State
@@ -242,6 +295,24 @@ load-lines =
       refuses-ten = refl;
       refuses-seven = refl;
       refused-whole = refl;
+    }
+
+pub setting-lines : SettingLines
+unfolding evaluation
+setting-lines =
+    record {
+      twenty-three-before-eight = refl;
+      twenty-three-before-seven = refl;
+      load-before-eight = refl;
+      load-before-seven = refl;
+      base-none = refl;
+      base-max = refl;
+      base-above = refl;
+      load-max = refl;
+      load-above = refl;
+      not-read = refl;
+      not-loaded = refl;
+      settings-read = refl;
     }
 
 pub fields : Fields

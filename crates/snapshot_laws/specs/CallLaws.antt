@@ -2,8 +2,8 @@
 -- when they are refused; and what reading leaves, whatever the bytes.
 -- Assumes nothing.
 use mathlib.Core.Path.{_≡_, refl, sym, ap, _∙_}
-use mathlib.Core.Logic.{_↔_}
-use mathlib.Core.Bool.{Bool, true, false}
+use mathlib.Core.Logic.{_↔_, _⊎_}
+use mathlib.Core.Bool.{Bool, true, false, false≢true}
 use mathlib.Core.List.{List, [], _∷_}
 use Prim.Native.Nat.{ℕ, zero, suc, _^_, _≤_, _<_}
 use native.Mathlib.Omega.{arith}
@@ -16,26 +16,28 @@ use Rattle.base.specs.ListLaws.{all-drop}
 use Rattle.base.specs.Logic.{all, any, elem, overlay}
 use Rattle.base.specs.Laws.{and-left, and-right}
 use Rattle.base.specs.Answers.{Outcome, refused, taken, numberOf, answerNumber, answerOf}
-use Rattle.base.specs.AnswerLaws.{not-refused}
+use Rattle.base.specs.AnswerLaws.{not-refused, exactly, Answers, says-numbers}
 use Rattle.base.specs.OutcomeLaws.{taken-refused, refuses-none, answer-refused}
 use Rattle.base.specs.declared.Refusal.{Refusal}
-use Rattle.base.specs.declared.Refusal.the-variants.{Broken, OutputFull}
+use Rattle.base.specs.declared.Refusal.the-variants.{Broken, OutputFull, BadSetting}
 use Rattle.base.specs.declared.Answer.{Answer}
 use Rattle.base.specs.Output.{Written, fitting, put, written}
 use Rattle.base.specs.declared.Answer.the-variants.{Taken, Refused}
 use Rattle.rows.specs.Table.{rowsOf}
 use Rattle.rows.specs.TableLaws.{length-rowsOf}
+use Rattle.counters.specs.declared.ShrinkSettings.{ShrinkSettings}
 use Rattle.counters.specs.declared.Counters.{Counters}
-use Rattle.counters.specs.Counts.{State, fresh}
+use Rattle.counters.specs.Counts.{State}
+use Rattle.counters.specs.Maintenance.{inRange}
 use Rattle.counters.specs.Layout.{countRow, roomOf, recordOf, stateOf, holds}
 use Rattle.counters.specs.LayoutLaws.{held, length-tableOf, stateOf-laid, holds-laid}
-use Rattle.counters.specs.Calls.{onState, laid, laidOut}
-use Rattle.counters.specs.CallLaws.{onState-held, onState-broken, broken-exactly, onState-numbers}
+use Rattle.counters.specs.Calls.{onState, laid, laidOut, withSettings, noCounters, laidIn}
+use Rattle.counters.specs.CallLaws.{onState-held, onState-broken, broken-exactly, onState-numbers, with-ranged, with-other, with-setting, with-numbers, laidOut-answer, laidOut-refused}
 use Rattle.snapshot.specs.Write.{snapshotBytes}
 use Rattle.snapshot.specs.Read.{readSnapshot}
 use Rattle.snapshot.specs.Calls.{lengthCall, serializeCall, deserializeCall}
 use Rattle.snapshot_laws.specs.RoundTrip.{WellFormed, renewed, read-snapshot}
-use Rattle.snapshot_laws.specs.RefusalLaws.{parse-ordered, parse-fits, read-parsed, read-bounded}
+use Rattle.snapshot_laws.specs.RefusalLaws.{parse-ordered, parse-fits, read-numbers, read-parsed, read-bounded}
 
 -- ---- a table of u64 holds u64
 module _ (p : ℕ → Bool) where
@@ -162,78 +164,101 @@ module _ (c : Counters) (t : List ℕ) where
       onState-numbers c t (λ s. taken (length (snapshotBytes s))) [] (refuses-none [] (length (snapshotBytes (stateOf c t)))) q (answer-refused measured q .0 e)
 
 -- ---- reading what was written
-module _ (base : ℕ) (s : State) (w : WellFormed s) (t : List ℕ) (room : length (s .counts) ≤ roomOf t) where
-  pub deserialize-written : deserializeCall base (snapshotBytes s) t ≡ laid (length t) (renewed base s)
-  unfolding deserializeCall laidOut
-  deserialize-written = rw (read-snapshot base (roomOf t) s w room)
+module _ (g : ShrinkSettings) (ranged : inRange g ≡ true) (s : State) (w : WellFormed s) (t : List ℕ) (room : length (s .counts) ≤ roomOf t) where
+  pub deserialize-written : deserializeCall g (snapshotBytes s) t ≡ laid g (length t) (renewed (g .base) s)
+  unfolding deserializeCall laidIn laidOut
+  deserialize-written = rw (with-ranged g (readSnapshot (g .base) (roomOf t) (snapshotBytes s)) ranged, read-snapshot (g .base) (roomOf t) s w room)
 
   -- the record and the table hold that state, and the table keeps its length
-  pub deserialize-state : stateOf (deserializeCall base (snapshotBytes s) t .result .counters) (deserializeCall base (snapshotBytes s) t .table) ≡ renewed base s
+  pub deserialize-state : stateOf (deserializeCall g (snapshotBytes s) t .result .counters) (deserializeCall g (snapshotBytes s) t .table) ≡ renewed (g .base) s
   unfolding laid
-  deserialize-state = rw deserialize-written (stateOf-laid (renewed base s) (length t) (omega arith))
+  deserialize-state = rw deserialize-written (stateOf-laid g (renewed (g .base) s) (length t) (omega arith))
 
-  pub deserialize-holds : holds (deserializeCall base (snapshotBytes s) t .result .counters) (deserializeCall base (snapshotBytes s) t .table) ≡ true
+  pub deserialize-holds : holds (deserializeCall g (snapshotBytes s) t .result .counters) (deserializeCall g (snapshotBytes s) t .table) ≡ true
   unfolding laid
-  deserialize-holds = rw deserialize-written (holds-laid (renewed base s) (length t) (omega arith) (w .spelled .sorted) (w .bounded))
+  deserialize-holds = rw deserialize-written (holds-laid g (renewed (g .base) s) (length t) (omega arith) ranged (w .spelled .sorted) (w .bounded))
 
-  pub deserialize-length : length (deserializeCall base (snapshotBytes s) t .table) ≡ length t
+  pub deserialize-length : length (deserializeCall g (snapshotBytes s) t .table) ≡ length t
   unfolding laid
-  deserialize-length = rw deserialize-written (length-tableOf (renewed base s) (length t) (omega arith))
+  deserialize-length = rw deserialize-written (length-tableOf g (renewed (g .base) s) (length t) (omega arith))
 
 -- what a record and a table hold, written and read into another table
-pub deserialize-held : (base : ℕ) (c : Counters) (t t′ : List ℕ) → holds c t ≡ true → WellFormed (stateOf c t) → c .stored ≤ roomOf t′
-    → deserializeCall base (snapshotBytes (stateOf c t)) t′ ≡ laid (length t′) (renewed base (stateOf c t))
+pub deserialize-held : (g : ShrinkSettings) (c : Counters) (t t′ : List ℕ) → inRange g ≡ true → holds c t ≡ true → WellFormed (stateOf c t) → c .stored ≤ roomOf t′
+    → deserializeCall g (snapshotBytes (stateOf c t)) t′ ≡ laid g (length t′) (renewed (g .base) (stateOf c t))
 unfolding stateOf
-deserialize-held base c t t′ h w r = deserialize-written base (stateOf c t) w t′ (omega (arith, length-rowsOf countRow (c .stored) t))
+deserialize-held g c t t′ ranged h w r = deserialize-written g ranged (stateOf c t) w t′ (omega (arith, length-rowsOf countRow (c .stored) t))
 
 -- ---- reading any bytes into a table of any content
-module _ (base : ℕ) (bs t : List ℕ) where
-  answered : deserializeCall base bs t .result .answer ≡ answerOf (readSnapshot base (roomOf t) bs)
-  unfolding deserializeCall laidOut laid
-  answered = go (readSnapshot base (roomOf t) bs)
-    where
-      go : (o : Outcome State) → laidOut (recordOf (fresh 0 0)) t o .result .answer ≡ answerOf o
-      go (refused r) = refl
-      go (taken s) = refl
+module _ (g : ShrinkSettings) (bs t : List ℕ) where
+  abbrev pub parsedOr : Outcome State
+  parsedOr = withSettings g (readSnapshot (g .base) (roomOf t) bs)
 
-  -- the numbers are the operation's
-  pub deserialize-answer : (r : Refusal) → (deserializeCall base bs t .result .answer ≡ Refused r) ↔ (readSnapshot base (roomOf t) bs ≡ refused r)
-  deserialize-answer r = rw answered (answer-refused (readSnapshot base (roomOf t) bs) r)
+  answered : deserializeCall g bs t .result .answer ≡ answerOf parsedOr
+  unfolding deserializeCall laidIn
+  answered = laidOut-answer g noCounters t parsedOr
+
+  -- the numbers: 23, and those of the operation
+  pub deserialize-given : (r : Refusal) → (deserializeCall g bs t .result .answer ≡ Refused r) ↔ (parsedOr ≡ refused r)
+  deserialize-given r = rw answered (answer-refused parsedOr r)
+
+  -- 23, bad setting: exactly where a setting is outside its range, whatever the bytes are
+  pub deserialize-setting : (deserializeCall g bs t .result .answer ≡ Refused BadSetting) ↔ ((g .base ≡ 0) ⊎ (g .max < g .base))
+  unfolding any
+  deserialize-setting =
+      exactly (deserialize-given BadSetting)
+      (with-setting g (readSnapshot (g .base) (roomOf t) bs) (λ e. false≢true (read-numbers (g .base) (roomOf t) bs BadSetting e)))
+
+  -- 23, 8, 7, 9, 10, 11, 6 or 25, and no other
+  pub deserialize-numbers : Answers (23 ∷ 8 ∷ 7 ∷ 9 ∷ 10 ∷ 11 ∷ 6 ∷ 25 ∷ []) (deserializeCall g bs t .result .answer)
+  deserialize-numbers =
+      says-numbers (23 ∷ 8 ∷ 7 ∷ 9 ∷ 10 ∷ 11 ∷ 6 ∷ 25 ∷ []) parsedOr answered
+      (with-numbers g (readSnapshot (g .base) (roomOf t) bs) (8 ∷ 7 ∷ 9 ∷ 10 ∷ 11 ∷ 6 ∷ 25 ∷ []) (read-numbers (g .base) (roomOf t) bs))
+
+  -- the other numbers are the operation's
+  pub deserialize-answer : inRange g ≡ true → (r : Refusal) → (deserializeCall g bs t .result .answer ≡ Refused r) ↔ (readSnapshot (g .base) (roomOf t) bs ≡ refused r)
+  deserialize-answer ranged r = rw (with-ranged g (readSnapshot (g .base) (roomOf t) bs) ranged) at (deserialize-given r)
 
   -- a refusal leaves the table as it was, and gives a record of zeros
-  pub deserialize-refused : (r : Refusal) → deserializeCall base bs t .result .answer ≡ Refused r
-      → (deserializeCall base bs t .result .counters ≡ recordOf (fresh 0 0)) × (deserializeCall base bs t .table ≡ t)
-  unfolding deserializeCall laidOut
-  deserialize-refused r e = rw (deserialize-answer r .0 e) (refl, refl)
+  pub deserialize-refused : (r : Refusal) → deserializeCall g bs t .result .answer ≡ Refused r
+      → (deserializeCall g bs t .result .counters ≡ noCounters) × (deserializeCall g bs t .table ≡ t)
+  unfolding deserializeCall laidIn
+  deserialize-refused r e = laidOut-refused g noCounters t parsedOr r (deserialize-given r .0 e)
 
-  -- what is taken is the state that was read, laid out
-  pub deserialize-taken : deserializeCall base bs t .result .answer ≡ Taken
-      → (s : State) × (readSnapshot base (roomOf t) bs ≡ taken s) × (deserializeCall base bs t ≡ laid (length t) s)
-  unfolding deserializeCall laidOut
-  deserialize-taken e = go (readSnapshot base (roomOf t) bs) refl
+  -- what is taken is the state that was read, laid out under the settings, which are in their ranges
+  pub deserialize-taken : deserializeCall g bs t .result .answer ≡ Taken
+      → (s : State) × (readSnapshot (g .base) (roomOf t) bs ≡ taken s) × (deserializeCall g bs t ≡ laid g (length t) s) × (inRange g ≡ true)
+  unfolding deserializeCall laidIn laidOut
+  deserialize-taken e = go parsedOr refl
     where
-      go : (o : Outcome State) → readSnapshot base (roomOf t) bs ≡ o
-          → (s : State) × (readSnapshot base (roomOf t) bs ≡ taken s) × (laidOut (recordOf (fresh 0 0)) t (readSnapshot base (roomOf t) bs) ≡ laid (length t) s)
-      go (refused r) q = absurd (not-refused (sym e ∙ deserialize-answer r .1 q))
-      go (taken s) q = (s, q, ap (laidOut (recordOf (fresh 0 0)) t) q)
+      go : (o : Outcome State) → parsedOr ≡ o
+          → (s : State) × (readSnapshot (g .base) (roomOf t) bs ≡ taken s) × (laidOut g noCounters t parsedOr ≡ laid g (length t) s) × (inRange g ≡ true)
+      go (refused r) q = absurd (not-refused (sym e ∙ deserialize-given r .1 q))
+      go (taken s) q =
+          let (ranged, same) = with-other g (readSnapshot (g .base) (roomOf t) bs) (taken s) q (λ i. taken-refused i) in
+          (s, same, ap (laidOut g noCounters t) q, ranged)
+
+  -- the record that is read has the settings that were given
+  pub deserialize-settings : deserializeCall g bs t .result .answer ≡ Taken → deserializeCall g bs t .result .counters .settings ≡ g
+  unfolding laid recordOf
+  deserialize-settings e = let (s, ok, same, ranged) = deserialize-taken e in rw same refl
 
   -- so 20 never follows
-  pub deserialize-taken-holds : deserializeCall base bs t .result .answer ≡ Taken → holds (deserializeCall base bs t .result .counters) (deserializeCall base bs t .table) ≡ true
+  pub deserialize-taken-holds : deserializeCall g bs t .result .answer ≡ Taken → holds (deserializeCall g bs t .result .counters) (deserializeCall g bs t .table) ≡ true
   unfolding laid
   deserialize-taken-holds e =
-      let (s, ok, same) = deserialize-taken e in
-      let parsed = read-parsed base (roomOf t) bs s ok in
-      let room = parse-fits base (roomOf t) bs s parsed in
-      rw same (holds-laid s (length t) (omega arith) (parse-ordered base (roomOf t) bs s parsed) (read-bounded base (roomOf t) bs s ok))
+      let (s, ok, same, ranged) = deserialize-taken e in
+      let parsed = read-parsed (g .base) (roomOf t) bs s ok in
+      let room = parse-fits (g .base) (roomOf t) bs s parsed in
+      rw same (holds-laid g s (length t) (omega arith) ranged (parse-ordered (g .base) (roomOf t) bs s parsed) (read-bounded (g .base) (roomOf t) bs s ok))
 
   -- the table keeps its length, whatever the answer
-  pub deserialize-keeps-length : length (deserializeCall base bs t .table) ≡ length t
+  pub deserialize-keeps-length : length (deserializeCall g bs t .table) ≡ length t
   unfolding laid
-  deserialize-keeps-length = go (deserializeCall base bs t .result .answer) refl
+  deserialize-keeps-length = go (deserializeCall g bs t .result .answer) refl
     where
-      go : (a : Answer) → deserializeCall base bs t .result .answer ≡ a → length (deserializeCall base bs t .table) ≡ length t
+      go : (a : Answer) → deserializeCall g bs t .result .answer ≡ a → length (deserializeCall g bs t .table) ≡ length t
       go (Refused r) e = ap length (deserialize-refused r e .1)
       go Taken e =
-          let (s, ok, same) = deserialize-taken e in
-          let room = parse-fits base (roomOf t) bs s (read-parsed base (roomOf t) bs s ok) in
-          rw same (length-tableOf s (length t) (omega arith))
+          let (s, ok, same, ranged) = deserialize-taken e in
+          let room = parse-fits (g .base) (roomOf t) bs s (read-parsed (g .base) (roomOf t) bs s ok) in
+          rw same (length-tableOf g s (length t) (omega arith))

@@ -19,12 +19,13 @@ use Rattle.base.specs.declared.Answer.the-variants.{Taken, Refused}
 use Rattle.rows.specs.Table.{rowsOf}
 use Rattle.rows.specs.RowLaws.{all-put}
 use Rattle.rows.specs.KeyLaws.{putRows}
+use Rattle.counters.specs.declared.ShrinkSettings.{ShrinkSettings}
 use Rattle.counters.specs.declared.Counters.{Counters}
 use Rattle.counters.specs.declared.CounterTransition.{CounterTransition}
 use Rattle.counters.specs.declared.NextIdx.{NextIdx}
 use Rattle.counters.specs.Counts.{Entry, State, rowOf, setCount, fresh}
 use Rattle.counters.specs.Batch.{changes, kept, countsAfter, stateAfter, applyBatch}
-use Rattle.counters.specs.Maintenance.{Settings, decide, shrunk}
+use Rattle.counters.specs.Maintenance.{inRange, decide, shrunk}
 use Rattle.counters.specs.Layout.{countRow, transitionRow, roomOf, withNext, stateOf, holds, batchOf}
 use Rattle.counters.specs.Calls.{newCall, allocCall, batchCall, shrinkCall}
 use Rattle.counters.specs.RefusalLaws.{allocate-spent, taken-state, taken-next, taken-ordered, taken-live, bounded-after}
@@ -91,10 +92,11 @@ batch-fits ws ts a e = go (eqb (length ws % 3) 0) e
     go false q = let z : _≡_ {A = ℕ} 0 1 = cc in absurd (omega arith)
 
 -- ---- the calls
-pub new-well-formed : (base : ℕ) (next : NextIdx) (t : List ℕ) → next .0 < 2 ^ 64 → WellFormed (stateOf (newCall base next t .result .counters) (newCall base next t .table))
+pub new-well-formed : (g : ShrinkSettings) (next : NextIdx) (t : List ℕ) → inRange g ≡ true → next .0 < 2 ^ 64
+    → WellFormed (stateOf (newCall g next t .result .counters) (newCall g next t .table))
 unfolding fresh all
-new-well-formed base next t h =
-    rw (new-state base next t) (record { spelled = record { next-fits = h; live-fits = omega arith; sorted = ordered-none (next .0); counts-fit = refl }; bounded = omega arith })
+new-well-formed g next t r h =
+    rw (new-state g next t r) (record { spelled = record { next-fits = h; live-fits = omega arith; sorted = ordered-none (next .0); counts-fit = refl }; bounded = omega arith })
 
 module _ (c : Counters) (t : List ℕ) (w : WellFormed (stateOf c t)) where
   pub alloc-well-formed : WellFormed (stateOf (allocCall c .counters) t)
@@ -130,9 +132,9 @@ module _ (c : Counters) (t : List ℕ) (w : WellFormed (stateOf c t)) where
           let x = b .1 in
           rw (b .2) (applied-well-formed (roomOf t) (stateOf c t) (x .transitions) (b .0) (x .applied) w (batch-fits ws (x .transitions) a (x .words)))
 
-  pub shrink-well-formed : (g : Settings) (saved : ℕ) → WellFormed (stateOf (shrinkCall g c t saved .counters) t)
-  shrink-well-formed g saved = go (holds c t) refl
+  pub shrink-well-formed : (saved : ℕ) → WellFormed (stateOf (shrinkCall c t saved .counters) t)
+  shrink-well-formed saved = go (holds c t) refl
     where
-      go : (b : Bool) → holds c t ≡ b → WellFormed (stateOf (shrinkCall g c t saved .counters) t)
-      go true h = rw (shrink-state g c t saved h) (well-maintained (stateOf c t) (shrunk g saved (decide (stateOf c t)) (stateOf c t .maintenance)) w)
-      go false h = rw (shrink-refused g c t saved Broken (shrink-broken g c t saved .1 h)) w
+      go : (b : Bool) → holds c t ≡ b → WellFormed (stateOf (shrinkCall c t saved .counters) t)
+      go true h = rw (shrink-state c t saved h) (well-maintained (stateOf c t) (shrunk (c .settings) saved (decide (stateOf c t)) (stateOf c t .maintenance)) w)
+      go false h = rw (shrink-refused c t saved Broken (shrink-broken c t saved .1 h)) w

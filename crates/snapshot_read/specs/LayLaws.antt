@@ -13,20 +13,22 @@ use borrow.Author.Tests.{leb-false, le-ltb, lt-ltb}
 use Rattle.base.specs.Logic.{any, flat, zeros, overlay}
 use Rattle.base.specs.ListLaws.{or-false}
 use Rattle.base.specs.declared.Refusal.{Refusal}
-use Rattle.base.specs.declared.Refusal.the-variants.{FewCells}
+use Rattle.base.specs.declared.Refusal.the-variants.{FewCells, BadSetting}
 use Rattle.base.specs.declared.Answer.the-variants.{Taken, Refused}
 use Rattle.slices.specs.Laws.{paste-start, paste-right, paste-two}
 use Rattle.rows.specs.Table.{tableOf}
 use Rattle.rows.specs.TableLaws.{rowsOf-table, length-table, laid-table, inserted}
+use Rattle.counters.specs.declared.ShrinkSettings.{ShrinkSettings}
 use Rattle.counters.specs.declared.Counters.{Counters}
 use Rattle.counters.specs.Counts.{Entry, freshMaintenance, fresh}
 use Rattle.counters.specs.Layout as layout
-use Rattle.counters.specs.Layout.{countRow, recordOf}
+use Rattle.counters.specs.Layout.{countRow, roomOf, recordOf}
 use Rattle.counters.specs.CodingLaws.{count-lawful}
 use Rattle.counters.specs.Batch.{bound}
-use Rattle.counters.specs.Calls.{Changed, laid, laidOut, effect, newEffect}
-use Rattle.counters.specs.Maintenance.{standard}
-use Rattle.snapshot.specs.Read.{readSnapshot, raised}
+use Rattle.counters.specs.Calls.{Changed, laid, laidOut, effect, newEffect, noCounters, laidIn}
+use Rattle.counters.specs.CallLaws.{with-ranged, with-bad}
+use Rattle.counters.specs.Maintenance.{inRange}
+use Rattle.snapshot.specs.Read.{parseSnapshot, readSnapshot, raised}
 use Rattle.snapshot.specs.Calls.{deserializeCall, loadEffect, loadCall}
 use Rattle.snapshot_tiers.specs.declared.Head.{Head}
 use Rattle.snapshot_judge.specs.declared.decide.Plan.{Plan}
@@ -123,33 +125,50 @@ module _ (s t u : List ℕ) (p : Plan) (e : u ≡ paste t 0 (zeros (length t)) (
   pub lay-filled : Planned s (length t / 2) p → (u ≡ zeros (length u)) × Planned s (length u / 2) p
   lay-filled q = (filled ∙ ap zeros (sym length-filled), rw length-filled q)
 
-  pub lay-laid : (live : ℕ) {w : List ℕ} {c : Counters} → Planned s (length t / 2) p → w ≡ tableOf countRow (length u) (countsOf s (p .end) (p .large))
-      → c ≡ freshRecord (p .next) live (p .rows) 131072 → newEffect c w ≡ laid (length t) (plannedState s p live)
-  unfolding laid recordOf layout.tableOf freshMaintenance standard
-  lay-laid live q g h = rw (g, length-filled, h, q .rows)
+  pub lay-laid : (g : ShrinkSettings) (live : ℕ) {w : List ℕ} {c : Counters} → Planned s (length t / 2) p → w ≡ tableOf countRow (length u) (countsOf s (p .end) (p .large))
+      → c ≡ freshRecord g (p .next) live (p .rows) → newEffect c w ≡ laid g (length t) (plannedState (g .base) s p live)
+  unfolding laid recordOf layout.tableOf freshMaintenance
+  lay-laid g live q f h = rw (f, length-filled, h, q .rows)
 
 -- ---- the ways of both calls
-module _ (s t : List ℕ) (q : Refusal) (d : Decided s (length t / 2) (verdicts.Refused q)) where
-  pub call-refused : effect (record { answer = Refused q; counters = freshRecord 0 0 0 0 }) t ≡ deserializeCall (standard .base) s t
-  unfolding deserializeCall readSnapshot laidOut recordOf fresh freshMaintenance
-  call-refused = rw (← d .outcome (standard .base))
+pub no-counters : (g : ShrinkSettings) → g ≡ record { base = 0; max = 0; «good_save» = 0 } → freshRecord g 0 0 0 ≡ noCounters
+unfolding noCounters recordOf fresh freshMaintenance
+no-counters g e = rw e
 
-  pub load-refused : loadEffect (record { answer = Refused q; counters = freshRecord 0 0 0 0; «old_total» = 0 }) t ≡ loadCall (standard .base) s t
-  unfolding loadCall laidOut recordOf fresh freshMaintenance
-  load-refused = rw (← d .outcome (standard .base))
+module _ (g : ShrinkSettings) (s t : List ℕ) (bad : inRange g ≡ false) where
+  pub call-bad : effect (record { answer = Refused BadSetting; counters = noCounters }) t ≡ deserializeCall g s t
+  unfolding deserializeCall laidIn laidOut
+  call-bad = rw (with-bad g (readSnapshot (g .base) (roomOf t) s) bad)
 
-module _ (s t : List ℕ) (p : Plan) (d : Decided s (length t / 2) (verdicts.Fits p)) where
-  pub call-few : p .live < p .rows → effect (record { answer = Refused FewCells; counters = freshRecord 0 0 0 0 }) t ≡ deserializeCall (standard .base) s t
-  unfolding deserializeCall readSnapshot bound laidOut recordOf fresh freshMaintenance
-  call-few h = rw (← d .outcome (standard .base), ← d .plan .rows, lt-ltb (p .live) (p .rows) h)
+  pub load-bad : loadEffect (record { answer = Refused BadSetting; counters = noCounters; «old_total» = 0 }) t ≡ loadCall g s t
+  unfolding loadCall laidIn laidOut
+  load-bad = rw (with-bad g (parseSnapshot (g .base) (roomOf t) s) bad)
 
-  pub call-laid : {w : List ℕ} {c : Counters} → p .rows ≤ p .live → newEffect c w ≡ laid (length t) (plannedState s p (p .live)) → newEffect c w ≡ deserializeCall (standard .base) s t
-  unfolding deserializeCall readSnapshot bound laidOut
-  call-laid h e = rw (← d .outcome (standard .base), ← d .plan .rows, le-ltb (p .live) (p .rows) h) e
+module _ (g : ShrinkSettings) (s t : List ℕ) (ranged : inRange g ≡ true) where
+  module _ (q : Refusal) (d : Decided s (length t / 2) (verdicts.Refused q)) where
+    pub call-refused : effect (record { answer = Refused q; counters = noCounters }) t ≡ deserializeCall g s t
+    unfolding deserializeCall readSnapshot laidIn laidOut
+    call-refused = rw (with-ranged g (readSnapshot (g .base) (roomOf t) s) ranged, ← d .outcome (g .base))
 
-  pub load-laid : {live : ℕ} {w : List ℕ} {c : Counters} → live ≡ max (p .live) (p .rows) → newEffect c w ≡ laid (length t) (plannedState s p live)
-      → loadEffect (record { answer = Taken; counters = c; «old_total» = p .live }) w ≡ loadCall (standard .base) s t
-  unfolding loadCall raised laidOut
-  load-laid h e =
-      rw (← d .outcome (standard .base), ← d .plan .rows, ← h)
-      (ap (λ (x : Changed). loadEffect (record { answer = x .result .answer; counters = x .result .counters; «old_total» = p .live }) (x .table)) e)
+    pub load-refused : loadEffect (record { answer = Refused q; counters = noCounters; «old_total» = 0 }) t ≡ loadCall g s t
+    unfolding loadCall laidIn laidOut
+    load-refused = rw (with-ranged g (parseSnapshot (g .base) (roomOf t) s) ranged, ← d .outcome (g .base))
+
+  module _ (p : Plan) (d : Decided s (length t / 2) (verdicts.Fits p)) where
+    pub call-few : p .live < p .rows → effect (record { answer = Refused FewCells; counters = noCounters }) t ≡ deserializeCall g s t
+    unfolding deserializeCall readSnapshot bound laidIn laidOut
+    call-few h =
+        rw (with-ranged g (readSnapshot (g .base) (roomOf t) s) ranged, ← d .outcome (g .base), ← d .plan .rows, lt-ltb (p .live) (p .rows) h)
+
+    pub call-laid : {w : List ℕ} {c : Counters} → p .rows ≤ p .live → newEffect c w ≡ laid g (length t) (plannedState (g .base) s p (p .live))
+        → newEffect c w ≡ deserializeCall g s t
+    unfolding deserializeCall readSnapshot bound laidIn laidOut
+    call-laid h e =
+        rw (with-ranged g (readSnapshot (g .base) (roomOf t) s) ranged, ← d .outcome (g .base), ← d .plan .rows, le-ltb (p .live) (p .rows) h) e
+
+    pub load-laid : {live : ℕ} {w : List ℕ} {c : Counters} → live ≡ max (p .live) (p .rows) → newEffect c w ≡ laid g (length t) (plannedState (g .base) s p live)
+        → loadEffect (record { answer = Taken; counters = c; «old_total» = p .live }) w ≡ loadCall g s t
+    unfolding loadCall raised laidIn laidOut
+    load-laid h e =
+        rw (with-ranged g (parseSnapshot (g .base) (roomOf t) s) ranged, ← d .outcome (g .base), ← d .plan .rows, ← h)
+        (ap (λ (x : Changed). loadEffect (record { answer = x .result .answer; counters = x .result .counters; «old_total» = p .live }) (x .table)) e)

@@ -7,6 +7,7 @@ use counters::Applied;
 use counters::CounterMaintenance;
 use counters::Counters;
 use counters::NextIdx;
+use counters::ShrinkSettings;
 use snapshot::Loaded;
 use snapshot_judge::decide::Plan;
 use snapshot_judge::decide::Verdict;
@@ -25,8 +26,7 @@ ghost use Rattle.base.specs.Logic.{zeros};
 ghost use Rattle.base.specs.declared.Answer.the-variants.{Refused};
 ghost use Rattle.rows.specs.Table.{tableOf};
 ghost use Rattle.counters.specs.Layout.{countRow};
-ghost use Rattle.counters.specs.Maintenance.{standard};
-ghost use Rattle.counters.specs.Calls.{effect, newEffect, laid};
+ghost use Rattle.counters.specs.Calls.{effect, newEffect, laid, noCounters};
 ghost use Rattle.snapshot.specs.Calls.{deserializeCall, loadEffect, loadCall};
 ghost use Rattle.snapshot_judge.specs.Decide.{countsOf, Planned};
 ghost use Rattle.snapshot_read.specs.Fresh.{freshRecord, plannedState};
@@ -57,9 +57,9 @@ fn lay(t: &mut [u64], s: &[u8], p: Plan)
     }
 }
 
-// A record with the starting threshold `base`, and with no removals.
-fn record_of(next: u64, live: u64, stored: usize, base: u64) -> Counters
-    ensures { λ r. ⌜ r ≡ freshRecord next live stored base ⌝ }
+// A record under some settings: the threshold starts at their base, and there are no removals.
+fn record_of(next: u64, live: u64, stored: usize, settings: ShrinkSettings) -> Counters
+    ensures { λ r. ⌜ r ≡ freshRecord settings next live stored ⌝ }
 {
     Counters {
         next_idx: NextIdx(next),
@@ -68,37 +68,47 @@ fn record_of(next: u64, live: u64, stored: usize, base: u64) -> Counters
         maintenance: CounterMaintenance {
             alive_removed_since_shrink: 0,
             small_removed_since_shrink: [0; 8],
-            min_alive_removed_before_shrink: base,
+            min_alive_removed_before_shrink: settings.base,
         },
+        settings,
     }
 }
 
-// The counts of a plan, laid over whatever the table holds, and their record with a live total.
-fn laid_in(t: &mut [u64], s: &[u8], p: Plan, live: u64) -> Counters
+// The counts of a plan, laid over whatever the table holds, and their record with a live total under some settings.
+fn laid_in(t: &mut [u64], s: &[u8], p: Plan, live: u64, settings: ShrinkSettings) -> Counters
     requires { ⌜ Planned (now s) (length (now t) / 2) p ⌝ }
-    ensures { λ r. ⌜ newEffect r (now (t .exit)) ≡ laid (length (now (t .entry))) (plannedState (now (s .entry)) p live) ⌝ }
+    ensures { λ r. ⌜ newEffect r (now (t .exit)) ≡ laid settings (length (now (t .entry))) (plannedState (settings .base) (now (s .entry)) p live) ⌝ }
 {
     let len = t.len();
     word_slices::fill(t, 0, len, 0);
     lay(t, s, p);
-    record_of(p.next, live, p.rows, 131072)
+    record_of(p.next, live, p.rows, settings)
 }
 
 // A refusal, with a record of zeros.
 fn refused(q: Refusal) -> Applied
-    ensures { λ r. ⌜ r ≡ record { answer = Refused q; counters = freshRecord 0 0 0 0 } ⌝ }
+    ensures { λ r. ⌜ r ≡ record { answer = Refused q; counters = noCounters } ⌝ }
 {
-    let counters = record_of(0, 0, 0, 0);
+    let none = ShrinkSettings {
+        base: 0,
+        max: 0,
+        good_save: 0,
+    };
+    let counters = record_of(0, 0, 0, none);
     Applied {
         answer: Answer::Refused(q),
         counters,
     }
 }
 
-// The counters that a snapshot holds, laid into the table. Where they are refused the record is all zeros.
-pub fn deserialize_trusted(s: &[u8], t: &mut [u64]) -> Applied
-    ensures { λ r. ⌜ effect r (now (t .exit)) ≡ deserializeCall (standard .base) (now (s .entry)) (now (t .entry)) ⌝ }
+// The counters that a snapshot holds, laid into the table under some settings, which are judged before a byte is read. Where they are refused the
+// record is all zeros.
+pub fn deserialize_trusted(s: &[u8], settings: ShrinkSettings, t: &mut [u64]) -> Applied
+    ensures { λ r. ⌜ effect r (now (t .exit)) ≡ deserializeCall settings (now (s .entry)) (now (t .entry)) ⌝ }
 {
+    if !shrink_rules::in_range(settings) {
+        return refused(Refusal::BadSetting);
+    }
     let v = decide(s, t.len() / 2);
     match v {
         Verdict::Refused(q) => refused(q),
@@ -107,7 +117,7 @@ pub fn deserialize_trusted(s: &[u8], t: &mut [u64]) -> Applied
             if live < p.rows as u64 {
                 return refused(Refusal::FewCells);
             }
-            let counters = laid_in(t, s, p, live);
+            let counters = laid_in(t, s, p, live, settings);
             Applied {
                 answer: Answer::Taken,
                 counters,
@@ -127,25 +137,33 @@ fn raised_total(live: u64, rows: usize) -> u64
     live
 }
 
+// A refusal of loading: a record of zeros, and 0 for the total.
+fn not_loaded(q: Refusal) -> Loaded
+    ensures { λ r. ⌜ r ≡ record { answer = Refused q; counters = noCounters; «old_total» = 0 } ⌝ }
+{
+    let x = refused(q);
+    let counters = x.counters;
+    Loaded {
+        answer: Answer::Refused(q),
+        counters,
+        old_total: 0,
+    }
+}
+
 // The counters of a snapshot that may be from before 25: in the place of that refusal the live total is raised, and the total that
 // the snapshot has is returned beside them.
-pub fn load_snapshot(s: &[u8], t: &mut [u64]) -> Loaded
-    ensures { λ r. ⌜ loadEffect r (now (t .exit)) ≡ loadCall (standard .base) (now (s .entry)) (now (t .entry)) ⌝ }
+pub fn load_snapshot(s: &[u8], settings: ShrinkSettings, t: &mut [u64]) -> Loaded
+    ensures { λ r. ⌜ loadEffect r (now (t .exit)) ≡ loadCall settings (now (s .entry)) (now (t .entry)) ⌝ }
 {
+    if !shrink_rules::in_range(settings) {
+        return not_loaded(Refusal::BadSetting);
+    }
     let v = decide(s, t.len() / 2);
     match v {
-        Verdict::Refused(q) => {
-            let x = refused(q);
-            let counters = x.counters;
-            Loaded {
-                answer: Answer::Refused(q),
-                counters,
-                old_total: 0,
-            }
-        }
+        Verdict::Refused(q) => not_loaded(q),
         Verdict::Fits(p) => {
             let live = raised_total(p.live, p.rows);
-            let counters = laid_in(t, s, p, live);
+            let counters = laid_in(t, s, p, live, settings);
             Loaded {
                 answer: Answer::Taken,
                 counters,

@@ -22,7 +22,7 @@ returns : tie.Need-returns
 returns c =
     let s = c .before .before .before .before .before .before .before .before .before .before .before in
     let a = s .args in
-    lay-laid (a .s .now) (a .t .now) _ (a .p) (c .before .before .before .before .before .before .before .fill .ensures) (a .live) (s .pre) (c .before .before .before .lay .ensures) (c .record-of .ensures)
+    lay-laid (a .s .now) (a .t .now) _ (a .p) (c .before .before .before .before .before .before .before .fill .ensures) (a .settings) (a .live) (s .pre) (c .before .before .before .lay .ensures) (c .record-of .ensures)
 
 pub laid-in-spec : {M : Type 1} → statement M
 laid-in-spec = tie.close (tie.spec fill-requires lay-requires record-of-requires same-length returns)
