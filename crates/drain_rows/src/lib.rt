@@ -6,24 +6,22 @@ ghost use lib.ListN.{length, take};
 ghost use lib.Dec.{leb};
 ghost use lib.Seq.{paste};
 ghost use Rattle.base.specs.Logic.{keep, flat, overlay};
-ghost use Rattle.cell_nursery.specs.Drain.{promotionDelay, due};
+ghost use Rattle.cell_nursery.specs.Drain.{due};
 ghost use Rattle.cell_nursery.specs.Layout.{waiterOf, entriesOf, waitingOf};
 ghost use Rattle.cell_nursery.specs.LayoutLaws.{EntriesHeld, WaitingHeld, CellsHeld};
 ghost use Rattle.cell_nursery.specs.CheckLaws.{waiterAtRow};
 ghost use Rattle.cell_nursery.specs.PrefixLaws.{promotedRow, handedOut};
 
-// How many rounds an entry waits.
-const PROMOTION_DELAY: u32 = 100;
-
-// How many waiting rows are due at a round: they stand first, since the rows stand by born round.
+// How many waiting rows are due at a round, by the record's delay: they stand first, since the rows stand by born round.
 pub fn due_rows(r: Nursery, ws: &[u64], round: u32) -> usize
     requires { ⌜ WaitingHeld r (now ws) ⌝ }
-    ensures { λ k. ⌜ k ≡ length (keep (due promotionDelay round) (waitingOf (r .waiting) (now (ws .entry)))) ⌝ }
+    ensures { λ k. ⌜ k ≡ length (keep (due (r .delay) round) (waitingOf (r .waiting) (now (ws .entry)))) ⌝ }
 {
-    if round < PROMOTION_DELAY {
+    let this_round = round as u64;
+    if this_round < r.delay {
         return 0;
     }
-    row_search::find(ws, 5, r.waiting, (round - PROMOTION_DELAY) as u64 + 1)
+    row_search::find(ws, 5, r.waiting, this_round - r.delay + 1)
 }
 
 // The row of the entry that waiting row i names, or the number of entries where none has its hash and its round.

@@ -1,5 +1,6 @@
 // Whether the nursery's lent tables hold a state: a pass over each table, and a look-up for each waiting row.
 use cell_nursery::Nursery;
+use cell_nursery::delay_in_range;
 ghost use mathlib.Core.Path.{_≡_};
 ghost use Prim.Native.Nat.{_*_, _≤_};
 ghost use lib.ListN.{length};
@@ -57,10 +58,13 @@ fn rounds_hold(t: &[u64], n: usize) -> bool
     true
 }
 
-// Whether the entries hold what the record says: rows by ascending hash, then zeros.
+// Whether the record has a delay in range, and the entries hold what the record says: rows by ascending hash, then zeros.
 pub fn holds_entries(r: Nursery, es: &[u64]) -> bool
     ensures { λ b. ⌜ b ≡ holdsEntries r (now (es .entry)) ⌝ }
 {
+    if !delay_in_range(r.delay) {
+        return false;
+    }
     let n = r.entries;
     if !row_checks::holds_rows(es, 8, n) {
         return false;

@@ -61,7 +61,7 @@ module _ (r : Nursery) (es ws cs : List ℕ) (wide : Bool) (n m : ℕ) (items : 
           commit-full u = rw (h, delta-whole (lengthWidth wide) n m items f, t, p, u)
 
           pub commit-taken : full (roomOf es ws cs) (stateOf r es ws cs) (deltaIn (lengthWidth wide) n m items) ≡ false → (q : Nursery) (es' ws' cs' : List ℕ)
-              → left q es' ws' cs' ≡ laid es ws cs (fold remove (deltaIn (lengthWidth wide) n m items .removes) (fold insert (deltaIn (lengthWidth wide) n m items .inserts) (stateOf r es ws cs))) → left q es' ws' cs' ≡ deltaCall r es ws cs wide n m items
+              → left q es' ws' cs' ≡ laid (r .delay) es ws cs (fold remove (deltaIn (lengthWidth wide) n m items .removes) (fold insert (deltaIn (lengthWidth wide) n m items .inserts) (stateOf r es ws cs))) → left q es' ws' cs' ≡ deltaCall r es ws cs wide n m items
           unfolding deltaCall onState laidOut applyDelta stateAfter
           commit-taken u q es' ws' cs' e = e ∙ sym (rw (h, delta-whole (lengthWidth wide) n m items f, t, p, u))
 

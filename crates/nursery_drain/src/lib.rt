@@ -8,7 +8,6 @@ use drain_rows::rows_fit;
 use drain_rows::write_rows;
 ghost use mathlib.Core.Path.{_≡_};
 ghost use mathlib.Core.Bool.{true};
-ghost use Rattle.cell_nursery.specs.Drain.{promotionDelay};
 ghost use Rattle.cell_nursery.specs.Layout.{holds};
 ghost use Rattle.cell_nursery.specs.Calls.{drainEffect, drainCall};
 
@@ -22,7 +21,7 @@ pub fn drain_promotable_held(
     out: &mut [u8],
 ) -> Drained
     requires { ⌜ holds r (now es) (now ws) (now cs) ≡ true ⌝ }
-    ensures { λ d. ⌜ drainEffect d (now (out .exit)) (now (ws .exit)) ≡ drainCall promotionDelay r (now (es .entry)) (now (ws .entry)) (now (cs .entry)) round (now (out .entry)) ⌝ }
+    ensures { λ d. ⌜ drainEffect d (now (out .exit)) (now (ws .exit)) ≡ drainCall r (now (es .entry)) (now (ws .entry)) (now (cs .entry)) round (now (out .entry)) ⌝ }
 {
     let k = due_rows(r, ws, round);
     if !rows_fit(r, es, ws, cs, k, out.len()) {
@@ -44,6 +43,7 @@ pub fn drain_promotable_held(
             entries: r.entries,
             waiting,
             cell_bytes: r.cell_bytes,
+            delay: r.delay,
         },
     }
 }
@@ -57,7 +57,7 @@ pub fn drain_promotable(
     round: u32,
     out: &mut [u8],
 ) -> Drained
-    ensures { λ d. ⌜ drainEffect d (now (out .exit)) (now (ws .exit)) ≡ drainCall promotionDelay r (now (es .entry)) (now (ws .entry)) (now (cs .entry)) round (now (out .entry)) ⌝ }
+    ensures { λ d. ⌜ drainEffect d (now (out .exit)) (now (ws .exit)) ≡ drainCall r (now (es .entry)) (now (ws .entry)) (now (cs .entry)) round (now (out .entry)) ⌝ }
 {
     if !nursery_checks::holds(r, es, ws, cs) {
         return Drained {

@@ -1,6 +1,6 @@
 -- Inserts and removes in turn: what holds of the tables between two of them.
 -- Assumes nothing.
-use mathlib.Core.Path.{_≡_, sym, ap, _∙_}
+use mathlib.Core.Path.{_≡_, sym, ap, ap₂, _∙_}
 use mathlib.Core.Bool.{true, false}
 use mathlib.Core.List.{List, [], _∷_}
 use Prim.Native.Nat.{ℕ, _+_, _/_, _≤_, min}
@@ -15,7 +15,7 @@ use Rattle.cell_nursery.specs.declared.Nursery.{Nursery}
 use Rattle.cell_nursery.specs.Entries.{Entry, State, cellBytes, insert, remove}
 use Rattle.cell_nursery.specs.Items.{Delta}
 use Rattle.cell_nursery.specs.Delta.{present, full, stateAfter}
-use Rattle.cell_nursery.specs.Layout.{recordOf, entriesTable, waitingTable, cellsTable, roomOf, stateOf, holds}
+use Rattle.cell_nursery.specs.Layout.{recordOf, entriesTable, waitingTable, cellsTable, roomOf, stateOf, delayInRange, holds}
 use Rattle.cell_nursery.specs.Calls.{Changed, laid}
 use Rattle.cell_nursery.specs.HashLaws.{U64}
 use Rattle.cell_nursery.specs.ItemLaws.{fitsItem}
@@ -44,9 +44,9 @@ ready-next rows bytes s e es r =
     }
 
 -- ---- tables that a step left for a state hold it
-module _ (es ws cs : List ℕ) (s : State) (ok : WellFormed s) (room : length (s .entries) ≤ min (length es / 8) (length ws / 5)) (cells : cellBytes (s .entries) ≤ length cs)
-    (q : Nursery) (es' ws' cs' : List ℕ) (e : left q es' ws' cs' ≡ laid es ws cs s) where
-  the-record : q ≡ recordOf s
+module _ (delay : ℕ) (inRange : delayInRange delay ≡ true) (es ws cs : List ℕ) (s : State) (ok : WellFormed s) (room : length (s .entries) ≤ min (length es / 8) (length ws / 5)) (cells : cellBytes (s .entries) ≤ length cs)
+    (q : Nursery) (es' ws' cs' : List ℕ) (e : left q es' ws' cs' ≡ laid delay es ws cs s) where
+  the-record : q ≡ recordOf delay s
   unfolding laid
   the-record = ap (λ (c : Changed). c .result .nursery) e
 
@@ -63,10 +63,10 @@ module _ (es ws cs : List ℕ) (s : State) (ok : WellFormed s) (room : length (s
   the-cells = ap (λ (c : Changed). c .cells) e
 
   held-after : holds q es' ws' cs' ≡ true
-  held-after = rw (the-record, the-entries, the-waiting, the-cells) (holds-laid s (length es) (length ws) (length cs) ok room cells)
+  held-after = rw (the-record, the-entries, the-waiting, the-cells) (holds-laid s (length es) (length ws) (length cs) ok room cells delay inRange)
 
   state-after : stateOf q es' ws' cs' ≡ s
-  state-after = rw (the-record, the-entries, the-waiting, the-cells) (stateOf-laid s (length es) (length ws) (length cs) ok room cells)
+  state-after = rw (the-record, the-entries, the-waiting, the-cells) (stateOf-laid s (length es) (length ws) (length cs) ok room cells delay)
 
   size-es : length es' ≡ length es
   size-es = rw the-entries (length-entriesTable s (length es) (length ws) (length cs) ok room cells)
@@ -78,22 +78,23 @@ module _ (es ws cs : List ℕ) (s : State) (ok : WellFormed s) (room : length (s
   size-cs = rw the-cells (length-cellsTable s (length es) (length ws) (length cs) ok room cells)
 
 -- ---- tables of the first lengths that hold a state, of which a step is left to do: `ahead` makes the state that is wanted
-module _ (es₀ ws₀ cs₀ : List ℕ) (goal : State) where
+module _ (delay : ℕ) (es₀ ws₀ cs₀ : List ℕ) (goal : State) where
   pub record Running (ahead : State → State) (r : Nursery) (es ws cs : List ℕ) : Type 0 where
     pub u64-es : U64 es
     pub u64-ws : U64 ws
     pub holding : holds r es ws cs ≡ true
+    pub same-delay : r .delay ≡ delay
     pub size-es : length es ≡ length es₀
     pub size-ws : length ws ≡ length ws₀
     pub size-cs : length cs ≡ length cs₀
     pub leads : ahead (stateOf r es ws cs) ≡ goal
 
   -- nothing is left to do
-  running-done : (r : Nursery) (es ws cs : List ℕ) → Running (λ s. s) r es ws cs → left r es ws cs ≡ laid es₀ ws₀ cs₀ goal
+  running-done : (r : Nursery) (es ws cs : List ℕ) → Running (λ s. s) r es ws cs → left r es ws cs ≡ laid delay es₀ ws₀ cs₀ goal
   unfolding laid
   running-done r es ws cs m =
       let h : Held r es ws cs = held r es ws cs (m .u64-es) (m .u64-ws) (m .holding) in
-      let a : r ≡ recordOf goal = sym (h .same-record) ∙ ap recordOf (m .leads) in
+      let a : r ≡ recordOf delay goal = sym (h .same-record) ∙ ap₂ recordOf (m .same-delay) (m .leads) in
       let b : es ≡ entriesTable (length es₀) goal = sym (h .same-entries) ∙ rw (m .size-es, m .leads) in
       let c : ws ≡ waitingTable (length ws₀) goal = sym (h .same-waiting) ∙ rw (m .size-ws, m .leads) in
       let d : cs ≡ cellsTable (length cs₀) goal = sym (h .same-cells) ∙ rw (m .size-cs, m .leads) in
@@ -102,17 +103,19 @@ module _ (es₀ ws₀ cs₀ : List ℕ) (goal : State) where
   -- a step is done
   running-next : (f : State → State) (ahead : State → State) (r : Nursery) (es ws cs : List ℕ) → Running (λ s. ahead (f s)) r es ws cs → WellFormed (f (stateOf r es ws cs))
       → length (f (stateOf r es ws cs) .entries) ≤ min (length es / 8) (length ws / 5) → cellBytes (f (stateOf r es ws cs) .entries) ≤ length cs
-      → (q : Nursery) (es' ws' cs' : List ℕ) → U64 es' → U64 ws' → left q es' ws' cs' ≡ laid es ws cs (f (stateOf r es ws cs)) → Running ahead q es' ws' cs'
+      → (q : Nursery) (es' ws' cs' : List ℕ) → U64 es' → U64 ws' → left q es' ws' cs' ≡ laid (r .delay) es ws cs (f (stateOf r es ws cs)) → Running ahead q es' ws' cs'
   running-next f ahead r es ws cs m ok room cells q es' ws' cs' u v e =
       let s : State = f (stateOf r es ws cs) in
+      let o = held r es ws cs (m .u64-es) (m .u64-ws) (m .holding) .entries .delay in
       record {
         u64-es = u;
         u64-ws = v;
-        holding = held-after es ws cs s ok room cells q es' ws' cs' e;
-        size-es = size-es es ws cs s ok room cells q es' ws' cs' e ∙ m .size-es;
-        size-ws = size-ws es ws cs s ok room cells q es' ws' cs' e ∙ m .size-ws;
-        size-cs = size-cs es ws cs s ok room cells q es' ws' cs' e ∙ m .size-cs;
-        leads = rw (state-after es ws cs s ok room cells q es' ws' cs' e) (m .leads);
+        holding = held-after (r .delay) o es ws cs s ok room cells q es' ws' cs' e;
+        same-delay = ap (λ (n : Nursery). n .delay) (the-record (r .delay) o es ws cs s ok room cells q es' ws' cs' e) ∙ (unfold recordOf in (m .same-delay));
+        size-es = size-es (r .delay) o es ws cs s ok room cells q es' ws' cs' e ∙ m .size-es;
+        size-ws = size-ws (r .delay) o es ws cs s ok room cells q es' ws' cs' e ∙ m .size-ws;
+        size-cs = size-cs (r .delay) o es ws cs s ok room cells q es' ws' cs' e ∙ m .size-cs;
+        leads = rw (state-after (r .delay) o es ws cs s ok room cells q es' ws' cs' e) (m .leads);
       }
 
   -- ---- inserts
@@ -133,7 +136,7 @@ module _ (es₀ ws₀ cs₀ : List ℕ) (goal : State) where
           bytes = omega (arith, y .bytes-fit, g .size-cs);
         }
 
-    pub inserting-next : (q : Nursery) (ts' ws' cs' : List ℕ) → U64 ts' → U64 ws' → left q ts' ws' cs' ≡ laid ts ws cs (insert e (stateOf r ts ws cs)) → Inserting es q ts' ws' cs'
+    pub inserting-next : (q : Nursery) (ts' ws' cs' : List ℕ) → U64 ts' → U64 ws' → left q ts' ws' cs' ≡ laid (r .delay) ts ws cs (insert e (stateOf r ts ws cs)) → Inserting es q ts' ws' cs'
     unfolding fold
     inserting-next q ts' ws' cs' u v eq =
         let g = m .running in
@@ -141,22 +144,23 @@ module _ (es₀ ws₀ cs₀ : List ℕ) (goal : State) where
         let y = ready-next (min (length es₀ / 8) (length ws₀ / 5)) (length cs₀) (stateOf r ts ws cs) e es (m .ready) in
         let room : length (s .entries) ≤ min (length ts / 8) (length ws / 5) = omega (arith, y .rows-fit, g .size-es, g .size-ws) in
         let cells : cellBytes (s .entries) ≤ length cs = omega (arith, y .bytes-fit, g .size-cs) in
+        let o = held r ts ws cs (g .u64-es) (g .u64-ws) (g .holding) .entries .delay in
         record {
           running = running-next (insert e) (fold insert es) r ts ws cs g (y .well) room cells q ts' ws' cs' u v eq;
-          ready = rw (state-after ts ws cs s (y .well) room cells q ts' ws' cs' eq) y;
+          ready = rw (state-after (r .delay) o ts ws cs s (y .well) room cells q ts' ws' cs' eq) y;
         }
 
-  pub inserting-done : (r : Nursery) (ts ws cs : List ℕ) → Inserting [] r ts ws cs → left r ts ws cs ≡ laid es₀ ws₀ cs₀ goal
+  pub inserting-done : (r : Nursery) (ts ws cs : List ℕ) → Inserting [] r ts ws cs → left r ts ws cs ≡ laid delay es₀ ws₀ cs₀ goal
   unfolding fold
   inserting-done r ts ws cs m = running-done r ts ws cs (m .running)
 
   -- ---- removes
-  pub removing-done : (r : Nursery) (es ws cs : List ℕ) → Running (fold remove []) r es ws cs → left r es ws cs ≡ laid es₀ ws₀ cs₀ goal
+  pub removing-done : (r : Nursery) (es ws cs : List ℕ) → Running (fold remove []) r es ws cs → left r es ws cs ≡ laid delay es₀ ws₀ cs₀ goal
   unfolding fold
   removing-done r es ws cs m = running-done r es ws cs m
 
   pub removing-next : (h : ℕ) (hs : List ℕ) (r : Nursery) (es ws cs : List ℕ) → Running (fold remove (h ∷ hs)) r es ws cs
-      → (q : Nursery) (es' ws' cs' : List ℕ) → U64 es' → U64 ws' → left q es' ws' cs' ≡ laid es ws cs (remove h (stateOf r es ws cs)) → Running (fold remove hs) q es' ws' cs'
+      → (q : Nursery) (es' ws' cs' : List ℕ) → U64 es' → U64 ws' → left q es' ws' cs' ≡ laid (r .delay) es ws cs (remove h (stateOf r es ws cs)) → Running (fold remove hs) q es' ws' cs'
   unfolding fold
   removing-next h hs r es ws cs m q es' ws' cs' u v eq =
       let x : Held r es ws cs = held r es ws cs (m .u64-es) (m .u64-ws) (m .holding) in
@@ -181,6 +185,9 @@ module _ (r : Nursery) (es ws cs : List ℕ) (u : U64 es) (v : U64 ws) (o : hold
   -- the inserts of the delta alone
   abbrev onlyInserts : Delta
   onlyInserts = record { inserts = d .inserts; removes = [] }
+
+  in-range : delayInRange (r .delay) ≡ true
+  in-range = held r es ws cs u v o .entries .delay
 
   well-mid : WellFormed (fold insert (d .inserts) (stateOf r es ws cs))
   unfolding stateAfter fold present
@@ -211,19 +218,21 @@ module _ (r : Nursery) (es ws cs : List ℕ) (u : U64 es) (v : U64 ws) (o : hold
         bytes-fit = ltb-false (length cs) (cellBytes (s .entries) + cellBytes (d .inserts)) (or-right (ltb (min (length es / 8) (length ws / 5)) (length (s .entries) + length (d .inserts))) _ room);
       }
 
-  module _ (q : Nursery) (es₁ ws₁ cs₁ : List ℕ) (e : left q es₁ ws₁ cs₁ ≡ laid es ws cs (fold insert (d .inserts) (stateOf r es ws cs))) where
+  module _ (q : Nursery) (es₁ ws₁ cs₁ : List ℕ) (e : left q es₁ ws₁ cs₁ ≡ laid (r .delay) es ws cs (fold insert (d .inserts) (stateOf r es ws cs))) where
     pub held-mid : holds q es₁ ws₁ cs₁ ≡ true
-    held-mid = held-after es ws cs (fold insert (d .inserts) (stateOf r es ws cs)) well-mid rows-mid bytes-mid q es₁ ws₁ cs₁ e
+    held-mid = held-after (r .delay) in-range es ws cs (fold insert (d .inserts) (stateOf r es ws cs)) well-mid rows-mid bytes-mid q es₁ ws₁ cs₁ e
 
-    pub delta-done : (t : Nursery) (es₂ ws₂ cs₂ : List ℕ) → left t es₂ ws₂ cs₂ ≡ laid es₁ ws₁ cs₁ (fold remove (d .removes) (stateOf q es₁ ws₁ cs₁))
-        → left t es₂ ws₂ cs₂ ≡ laid es ws cs (fold remove (d .removes) (fold insert (d .inserts) (stateOf r es ws cs)))
+    pub delta-done : (t : Nursery) (es₂ ws₂ cs₂ : List ℕ) → left t es₂ ws₂ cs₂ ≡ laid (q .delay) es₁ ws₁ cs₁ (fold remove (d .removes) (stateOf q es₁ ws₁ cs₁))
+        → left t es₂ ws₂ cs₂ ≡ laid (r .delay) es ws cs (fold remove (d .removes) (fold insert (d .inserts) (stateOf r es ws cs)))
     unfolding laid
     delta-done t es₂ ws₂ cs₂ f =
         let s : State = fold insert (d .inserts) (stateOf r es ws cs) in
+        let same-delay : q .delay ≡ r .delay = unfold recordOf in (ap (λ (n : Nursery). n .delay) (the-record (r .delay) in-range es ws cs s well-mid rows-mid bytes-mid q es₁ ws₁ cs₁ e)) in
         f
         ∙ rw (
-          size-es es ws cs s well-mid rows-mid bytes-mid q es₁ ws₁ cs₁ e,
-          size-ws es ws cs s well-mid rows-mid bytes-mid q es₁ ws₁ cs₁ e,
-          size-cs es ws cs s well-mid rows-mid bytes-mid q es₁ ws₁ cs₁ e,
-          state-after es ws cs s well-mid rows-mid bytes-mid q es₁ ws₁ cs₁ e,
+          size-es (r .delay) in-range es ws cs s well-mid rows-mid bytes-mid q es₁ ws₁ cs₁ e,
+          size-ws (r .delay) in-range es ws cs s well-mid rows-mid bytes-mid q es₁ ws₁ cs₁ e,
+          size-cs (r .delay) in-range es ws cs s well-mid rows-mid bytes-mid q es₁ ws₁ cs₁ e,
+          state-after (r .delay) in-range es ws cs s well-mid rows-mid bytes-mid q es₁ ws₁ cs₁ e,
+          same-delay,
         )

@@ -26,7 +26,7 @@ fn insert_at(
 ) -> Nursery
     requires { ⌜ at + insertLen (lengthWidth wide) (drop at (now items)) ≤ length (now items) ⌝ }
     requires { ⌜ Insertable r (now es) (now ws) (now cs) (insertIn (lengthWidth wide) (drop at (now items))) ⌝ }
-    ensures { λ q. ⌜ left q (now (es .exit)) (now (ws .exit)) (now (cs .exit)) ≡ laid (now (es .entry)) (now (ws .entry)) (now (cs .entry)) (insert (insertIn (lengthWidth wide) (drop at (now (items .entry)))) (stateOf r (now (es .entry)) (now (ws .entry)) (now (cs .entry)))) ⌝ }
+    ensures { λ q. ⌜ left q (now (es .exit)) (now (ws .exit)) (now (cs .exit)) ≡ laid (r .delay) (now (es .entry)) (now (ws .entry)) (now (cs .entry)) (insert (insertIn (lengthWidth wide) (drop at (now (items .entry)))) (stateOf r (now (es .entry)) (now (ws .entry)) (now (cs .entry)))) ⌝ }
 {
     let hash = hash_words::wide_of(items, at);
     let idx = delta_items::idx_at(items, at);
@@ -49,7 +49,7 @@ fn apply_inserts(
     requires { ⌜ insertsFit (lengthWidth wide) inserts (now items) ≡ true ⌝ }
     requires { ⌜ holds r (now es) (now ws) (now cs) ≡ true ⌝ }
     requires { ⌜ Ready (min (length (now es) / 8) (length (now ws) / 5)) (length (now cs)) (stateOf r (now es) (now ws) (now cs)) (insertsIn (lengthWidth wide) inserts (now items)) ⌝ }
-    ensures { λ q. ⌜ left q (now (es .exit)) (now (ws .exit)) (now (cs .exit)) ≡ laid (now (es .entry)) (now (ws .entry)) (now (cs .entry)) (fold insert (insertsIn (lengthWidth wide) inserts (now (items .entry))) (stateOf r (now (es .entry)) (now (ws .entry)) (now (cs .entry)))) ⌝ }
+    ensures { λ q. ⌜ left q (now (es .exit)) (now (ws .exit)) (now (cs .exit)) ≡ laid (r .delay) (now (es .entry)) (now (ws .entry)) (now (cs .entry)) (fold insert (insertsIn (lengthWidth wide) inserts (now (items .entry))) (stateOf r (now (es .entry)) (now (ws .entry)) (now (cs .entry)))) ⌝ }
 {
     let mut q = r;
     let mut at = 0;
@@ -75,7 +75,7 @@ fn apply_removes(
 ) -> Nursery
     requires { ⌜ at + 32 * removes ≤ length (now items) ⌝ }
     requires { ⌜ holds r (now es) (now ws) (now cs) ≡ true ⌝ }
-    ensures { λ q. ⌜ left q (now (es .exit)) (now (ws .exit)) (now (cs .exit)) ≡ laid (now (es .entry)) (now (ws .entry)) (now (cs .entry)) (fold remove (hashesIn removes (drop at (now (items .entry)))) (stateOf r (now (es .entry)) (now (ws .entry)) (now (cs .entry)))) ⌝ }
+    ensures { λ q. ⌜ left q (now (es .exit)) (now (ws .exit)) (now (cs .exit)) ≡ laid (r .delay) (now (es .entry)) (now (ws .entry)) (now (cs .entry)) (fold remove (hashesIn removes (drop at (now (items .entry)))) (stateOf r (now (es .entry)) (now (ws .entry)) (now (cs .entry)))) ⌝ }
 {
     let mut q = r;
     let mut j: u64 = 0;
@@ -102,7 +102,7 @@ pub fn apply_items(
 ) -> Nursery
     requires { ⌜ (itemsFit (lengthWidth wide) inserts removes (now items) ≡ true) × (at ≡ insertsLen (lengthWidth wide) inserts (now items)) ⌝ }
     requires { ⌜ Applicable r (now es) (now ws) (now cs) (deltaIn (lengthWidth wide) inserts removes (now items)) ⌝ }
-    ensures { λ q. ⌜ left q (now (es .exit)) (now (ws .exit)) (now (cs .exit)) ≡ laid (now (es .entry)) (now (ws .entry)) (now (cs .entry)) (fold remove (deltaIn (lengthWidth wide) inserts removes (now (items .entry)) .removes) (fold insert (deltaIn (lengthWidth wide) inserts removes (now (items .entry)) .inserts) (stateOf r (now (es .entry)) (now (ws .entry)) (now (cs .entry))))) ⌝ }
+    ensures { λ q. ⌜ left q (now (es .exit)) (now (ws .exit)) (now (cs .exit)) ≡ laid (r .delay) (now (es .entry)) (now (ws .entry)) (now (cs .entry)) (fold remove (deltaIn (lengthWidth wide) inserts removes (now (items .entry)) .removes) (fold insert (deltaIn (lengthWidth wide) inserts removes (now (items .entry)) .inserts) (stateOf r (now (es .entry)) (now (ws .entry)) (now (cs .entry))))) ⌝ }
 {
     let q = apply_inserts(r, es, ws, cs, wide, inserts, items);
     apply_removes(q, es, ws, cs, removes, items, at)

@@ -92,7 +92,7 @@ module _ (r : Nursery) (es ws cs : List ℕ) (u : U64 es) (v : U64 ws) (e : Entr
   unfolding stateOf
   absent-key = rw (entries-keys r es cs (all-held .entries)) at (x .absent)
 
-  the-record : recordOf (insert e (stateOf r es ws cs)) ≡ record { entries = r .entries + 1; waiting = r .waiting + 1; «cell_bytes» = r .«cell_bytes» + length (e .cell) }
+  the-record : recordOf (r .delay) (insert e (stateOf r es ws cs)) ≡ record { entries = r .entries + 1; waiting = r .waiting + 1; «cell_bytes» = r .«cell_bytes» + length (e .cell); delay = r .delay }
   unfolding recordOf
   the-record =
       rw (
@@ -112,7 +112,7 @@ module _ (r : Nursery) (es ws cs : List ℕ) (u : U64 es) (v : U64 ws) (e : Entr
         → es' ≡ tableOf entryRow (length es) (take k (rowsOf entryRow (r .entries) es) ++ entryRowOf p e ∷ map (later (length (e .cell))) (drop k (rowsOf entryRow (r .entries) es)))
         → ws' ≡ insertedAt (place (suc (e .born)) (keys firstWord 5 (r .waiting) ws)) (r .waiting) (waitingRowOf (record { born = e .born; hash = e .hash })) ws
         → cs' ≡ take p cs ++ (e .cell ++ (take (r .«cell_bytes» - p) (drop p cs) ++ drop (r .«cell_bytes» + length (e .cell)) cs))
-        → left (record { entries = r .entries + 1; waiting = r .waiting + 1; «cell_bytes» = r .«cell_bytes» + length (e .cell) }) es' ws' cs' ≡ laid es ws cs (insert e (stateOf r es ws cs))
+        → left (record { entries = r .entries + 1; waiting = r .waiting + 1; «cell_bytes» = r .«cell_bytes» + length (e .cell); delay = r .delay }) es' ws' cs' ≡ laid (r .delay) es ws cs (insert e (stateOf r es ws cs))
     unfolding laid
     insert-left es' ws' cs' a b c =
         let h = all-held in
@@ -133,12 +133,12 @@ module _ (r : Nursery) (es ws cs : List ℕ) (u : U64 es) (v : U64 ws) (hash : W
       → es' ≡ tableOf entryRow (length es) (take k (rowsOf entryRow (r .entries) es) ++ rowFor hash idx born p len ∷ map (later len) (drop k (rowsOf entryRow (r .entries) es)))
       → ws' ≡ insertedAt (place (suc born) (keys firstWord 5 (r .waiting) ws)) (r .waiting) (waiterFor born hash) ws
       → cs' ≡ take p cs ++ (take len (drop at items) ++ (take (r .«cell_bytes» - p) (drop p cs) ++ drop (r .«cell_bytes» + len) cs))
-      → left (record { entries = r .entries + 1; waiting = r .waiting + 1; «cell_bytes» = r .«cell_bytes» + len }) es' ws' cs' ≡ laid es ws cs (insert (newEntry hash idx born (take len (drop at items))) (stateOf r es ws cs))
+      → left (record { entries = r .entries + 1; waiting = r .waiting + 1; «cell_bytes» = r .«cell_bytes» + len; delay = r .delay }) es' ws' cs' ≡ laid (r .delay) es ws cs (insert (newEntry hash idx born (take len (drop at items))) (stateOf r es ws cs))
   insert-done k p here there es' ws' cs' a b c =
       let e : Entry = newEntry hash idx born (take len (drop at items)) in
       let l : len ≡ length (e .cell) = sym (length-part items at len inside) in
       let words = key-words hash w in
-      ap (λ (m : ℕ). left (record { entries = r .entries + 1; waiting = r .waiting + 1; «cell_bytes» = r .«cell_bytes» + m }) es' ws' cs') l
+      ap (λ (m : ℕ). left (record { entries = r .entries + 1; waiting = r .waiting + 1; «cell_bytes» = r .«cell_bytes» + m; delay = r .delay }) es' ws' cs') l
       ∙ insert-left r es ws cs u v e x k p here there es' ws' cs'
       (a ∙ ap (λ (m : ℕ). tableOf entryRow (length es) (take k (rowsOf entryRow (r .entries) es) ++ rowFor hash idx born p m ∷ map (later m) (drop k (rowsOf entryRow (r .entries) es)))) l
       ∙ ap (λ (h : HashWords). tableOf entryRow (length es) (take k (rowsOf entryRow (r .entries) es) ++ record { hash = h; idx = idx; born = born; place = p; len = length (e .cell) } ∷ map (later (length (e .cell))) (drop k (rowsOf entryRow (r .entries) es)))) (sym words))

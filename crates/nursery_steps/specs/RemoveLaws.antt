@@ -72,7 +72,7 @@ module _ (r : Nursery) (es ws cs : List ℕ) (u : U64 es) (v : U64 ws) (o : hold
       unfolding cellsTable stateOf
       same-cs = ap (λ (l : List Entry). cellsOf l ++ zeros (length cs - cellBytes l)) all-kept ∙ all-held .same-cells
 
-      pub absent-left : left (record { entries = r .entries; waiting = j; «cell_bytes» = r .«cell_bytes» }) es ws' cs ≡ laid es ws cs (remove h (stateOf r es ws cs))
+      pub absent-left : left (record { entries = r .entries; waiting = j; «cell_bytes» = r .«cell_bytes»; delay = r .delay }) es ws' cs ≡ laid (r .delay) es ws cs (remove h (stateOf r es ws cs))
       unfolding laid recordOf
       absent-left =
           let n : length (remove h (stateOf r es ws cs) .entries) ≡ r .entries = ap length all-kept ∙ number-entries r es cs in
@@ -136,7 +136,7 @@ module _ (r : Nursery) (es ws cs : List ℕ) (u : U64 es) (v : U64 ws) (o : hold
       pub hit-left : (es' cs' : List ℕ) (p len : ℕ) → p ≡ getD es (k * 8 + 6) 0 → len ≡ getD es (k * 8 + 7) 0
           → es' ≡ tableOf entryRow (length es) (take k (rowsOf entryRow (r .entries) es) ++ map (earlier len) (drop (suc k) (rowsOf entryRow (r .entries) es)))
           → cs' ≡ take p cs ++ (take (r .«cell_bytes» - (p + len)) (drop (p + len) cs) ++ (zeros len ++ drop (r .«cell_bytes») cs))
-          → left (record { entries = r .entries - 1; waiting = j; «cell_bytes» = r .«cell_bytes» - len }) es' ws' cs' ≡ laid es ws cs (remove h (stateOf r es ws cs))
+          → left (record { entries = r .entries - 1; waiting = j; «cell_bytes» = r .«cell_bytes» - len; delay = r .delay }) es' ws' cs' ≡ laid (r .delay) es ws cs (remove h (stateOf r es ws cs))
       unfolding laid recordOf
       hit-left es' cs' p len at-p at-len a c =
           let x = all-held in

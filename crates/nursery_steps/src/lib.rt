@@ -30,7 +30,7 @@ pub fn insert_held(
 ) -> Nursery
     requires { ⌜ at + len ≤ length (now items) ⌝ }
     requires { ⌜ Insertable r (now es) (now ws) (now cs) (newEntry hash idx born (take len (drop at (now items)))) ⌝ }
-    ensures { λ q. ⌜ left q (now (es .exit)) (now (ws .exit)) (now (cs .exit)) ≡ laid (now (es .entry)) (now (ws .entry)) (now (cs .entry)) (insert (newEntry hash idx born (take len (drop at (now (items .entry))))) (stateOf r (now (es .entry)) (now (ws .entry)) (now (cs .entry)))) ⌝ }
+    ensures { λ q. ⌜ left q (now (es .exit)) (now (ws .exit)) (now (cs .exit)) ≡ laid (r .delay) (now (es .entry)) (now (ws .entry)) (now (cs .entry)) (insert (newEntry hash idx born (take len (drop at (now (items .entry))))) (stateOf r (now (es .entry)) (now (ws .entry)) (now (cs .entry)))) ⌝ }
 {
     let n = r.entries;
     let m = r.waiting;
@@ -44,13 +44,14 @@ pub fn insert_held(
         entries: n + 1,
         waiting: m + 1,
         cell_bytes: end + len,
+        delay: r.delay,
     }
 }
 
 // Neither the entry of a hash nor its waiting rows are left.
 pub fn remove_held(r: Nursery, es: &mut [u64], ws: &mut [u64], cs: &mut [u8], hash: Wide) -> Nursery
     requires { ⌜ holds r (now es) (now ws) (now cs) ≡ true ⌝ }
-    ensures { λ q. ⌜ left q (now (es .exit)) (now (ws .exit)) (now (cs .exit)) ≡ laid (now (es .entry)) (now (ws .entry)) (now (cs .entry)) (remove (keyOf hash) (stateOf r (now (es .entry)) (now (ws .entry)) (now (cs .entry)))) ⌝ }
+    ensures { λ q. ⌜ left q (now (es .exit)) (now (ws .exit)) (now (cs .exit)) ≡ laid (r .delay) (now (es .entry)) (now (ws .entry)) (now (cs .entry)) (remove (keyOf hash) (stateOf r (now (es .entry)) (now (ws .entry)) (now (cs .entry)))) ⌝ }
 {
     let n = r.entries;
     let m = r.waiting;
@@ -62,6 +63,7 @@ pub fn remove_held(r: Nursery, es: &mut [u64], ws: &mut [u64], cs: &mut [u8], ha
             entries: n,
             waiting,
             cell_bytes: end,
+            delay: r.delay,
         };
     }
     let place = es[k * 8 + 6];
@@ -72,5 +74,6 @@ pub fn remove_held(r: Nursery, es: &mut [u64], ws: &mut [u64], cs: &mut [u8], ha
         entries: n - 1,
         waiting,
         cell_bytes: end - len as usize,
+        delay: r.delay,
     }
 }

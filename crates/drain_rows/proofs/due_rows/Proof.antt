@@ -10,10 +10,7 @@ use Rattle.drain_rows.proofs.due_rows.Statement.{statement}
 use Rattle.drain_rows.proofs.due_rows.Tie as tie
 
 returns : tie.Need-returns
-returns c = let s = c .before .before in due-early 100 (s .args .round) (s .args .r) (s .args .ws .now) (s .pre) (c .if1 .taken)
-
-cast-find : tie.Need-cast-find
-cast-find c = search needs
+returns c = let s = c .before .before .before in due-early (s .args .r .delay) (s .args .round) (s .args .r) (s .args .ws .now) (s .pre) (c .if1 .taken)
 
 add-find : tie.Need-add-find
 add-find c = search needs
@@ -23,10 +20,10 @@ find-requires c κs = search needs
 
 returns-2 : tie.Need-returns-2
 returns-2 c =
-    let s = c .before .before .before in
+    let s = c .before .before .before .before .before in
     let a = s .args in
-    due-late 100 (a .round) (a .r) (a .ws .now) (s .pre) (c .before .if1 .left) (c .find .result)
-    (c .find .ensures ∙ ap (λ (j : ℕ). place j (keys firstWord 5 (a .r .waiting) (a .ws .now))) (add-one (a .round - 100)))
+    due-late (a .r .delay) (a .round) (a .r) (a .ws .now) (s .pre) (c .before .before .if1 .left) (c .find .result)
+    (c .find .ensures ∙ ap (λ (j : ℕ). place j (keys firstWord 5 (a .r .waiting) (a .ws .now))) (add-one (a .round - a .r .delay)))
 
 pub due-rows-spec : {M : Type 1} → statement M
-due-rows-spec = tie.close (tie.spec returns cast-find add-find find-requires returns-2)
+due-rows-spec = tie.close (tie.spec returns add-find find-requires returns-2)

@@ -14,7 +14,7 @@ same-length : tie.Need-same-length
 same-length c = search needs
 
 returns : tie.Need-returns
-returns c = let a = c .before .before .before .before .before .before .before .args in drain-broken 100 (a .round) (a .r) (a .es .now) (a .ws .now) (a .cs .now) (a .out .now) (sym (c .before .holds .ensures) ∙ not-true _ (c .if1 .taken))
+returns c = let a = c .before .before .before .before .before .before .before .args in drain-broken (a .round) (a .r) (a .es .now) (a .ws .now) (a .cs .now) (a .out .now) (sym (c .before .holds .ensures) ∙ not-true _ (c .if1 .taken))
 
 drain-promotable-held-requires : tie.Need-drain-promotable-held-requires
 drain-promotable-held-requires c κs = sym (c .before .before .before .holds .ensures) ∙ not-false _ (c .before .before .if1 .left)

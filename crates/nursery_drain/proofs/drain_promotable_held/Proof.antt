@@ -25,7 +25,7 @@ all-held c =
 
 -- the first rows that are due are no more than there are
 few : (c : tie.After-due-rows) → c .due-rows .result ≤ c .before .before .before .before .before .before .args .r .waiting
-few c = let f = c .before .before in let a = f .before .before .before .before .args in due-within 100 (a .round) (a .r) (a .ws .now) (all-held f .waiting) (c .due-rows .result) (c .due-rows .ensures)
+few c = let f = c .before .before in let a = f .before .before .before .before .args in due-within (a .r .delay) (a .round) (a .r) (a .ws .now) (all-held f .waiting) (c .due-rows .result) (c .due-rows .ensures)
 
 -- how many bytes they hand out
 abbrev bytes : (c : tie.After-due-rows) → ℕ
@@ -47,7 +47,7 @@ returns c =
     let s = f .before .before .before .before in
     let a = s .args in
     let h = all-held f in
-    drain-full 100 (a .round) (a .r) (a .es .now) (a .ws .now) (a .cs .now) (h .entries) (h .waiting) (h .cells) (d .due-rows .result) (d .due-rows .ensures) (a .out .now) (s .pre) (leb-false (bytes d) (length (a .out .now)) (sym (c .before .rows-fit .ensures) ∙ not-true _ (c .if1 .taken)))
+    drain-full (a .round) (a .r) (a .es .now) (a .ws .now) (a .cs .now) (h .entries) (h .waiting) (h .cells) (d .due-rows .result) (d .due-rows .ensures) (a .out .now) (s .pre) (leb-false (bytes d) (length (a .out .now)) (sym (c .before .rows-fit .ensures) ∙ not-true _ (c .if1 .taken)))
 
 write-rows-requires : tie.Need-write-rows-requires
 write-rows-requires c κs =
@@ -84,7 +84,7 @@ returns-2 c =
     let a = s .args in
     let h = all-held f in
     rw (c .before .before .before .before .before .before .before .before .write-rows .ensures .1, c .before .before .before .remove-row .ensures, c .before .before .before .before .before .before .before .before .write-rows .ensures .0)
-    (drain-done 100 (a .round) (a .r) (a .es .now) (a .ws .now) (a .cs .now) (h .entries) (h .waiting) (h .cells) (d .due-rows .result) (d .due-rows .ensures) (a .out .now) (s .pre) (words f) (flat (handedOut (entriesOf (a .r .entries) (a .es .now) (a .cs .now))) (take (d .due-rows .result) (waitingOf (a .r .waiting) (a .ws .now)))) refl (leb-true (bytes d) (length (a .out .now)) (sym (c .before .before .before .before .before .before .before .before .before .before .before .before .rows-fit .ensures) ∙ not-false _ (c .before .before .before .before .before .before .before .before .before .before .before .if1 .left))))
+    (drain-done (a .round) (a .r) (a .es .now) (a .ws .now) (a .cs .now) (h .entries) (h .waiting) (h .cells) (d .due-rows .result) (d .due-rows .ensures) (a .out .now) (s .pre) (words f) (flat (handedOut (entriesOf (a .r .entries) (a .es .now) (a .cs .now))) (take (d .due-rows .result) (waitingOf (a .r .waiting) (a .ws .now)))) refl (leb-true (bytes d) (length (a .out .now)) (sym (c .before .before .before .before .before .before .before .before .before .before .before .before .rows-fit .ensures) ∙ not-false _ (c .before .before .before .before .before .before .before .before .before .before .before .if1 .left))))
 
 pub drain-promotable-held-spec : {M : Type 1} → statement M
 drain-promotable-held-spec =

@@ -15,20 +15,20 @@ use Rattle.nursery_run.proofs.apply_inserts.Statement.{statement}
 use Rattle.nursery_run.proofs.apply_inserts.Tie as tie
 
 abbrev Inv-loop : tie.InvT-loop
-Inv-loop es₀ ws₀ cs₀ wide inserts items q₀ at₀ i₀ es ws cs q at i = (Left (lengthWidth wide) inserts i at (insertsLen (lengthWidth wide) inserts items) items) × Inserting es₀ ws₀ cs₀ (fold insert (insertsIn (lengthWidth wide) inserts items) (stateOf q₀ es₀ ws₀ cs₀)) (insertsFrom (lengthWidth wide) inserts i at items) q es ws cs
+Inv-loop es₀ ws₀ cs₀ wide inserts items q₀ at₀ i₀ es ws cs q at i = (Left (lengthWidth wide) inserts i at (insertsLen (lengthWidth wide) inserts items) items) × Inserting (q₀ .delay) es₀ ws₀ cs₀ (fold insert (insertsIn (lengthWidth wide) inserts items) (stateOf q₀ es₀ ws₀ cs₀)) (insertsFrom (lengthWidth wide) inserts i at items) q es ws cs
 
 abbrev μ-loop : tie.MeasureT-loop
 μ-loop es₀ ws₀ cs₀ wide inserts items q₀ at₀ i₀ es ws cs q at i = inserts - i
 
 -- the insert at hand, and those behind it
 turn : (c : tie.In-loop Inv-loop μ-loop) → let a = c .before .before .before .before .before .before .args in let l = c .before .loop in let w = lengthWidth (a .wide) in
-    Inserting (a .es .now) (a .ws .now) (a .cs .now) (fold insert (insertsIn w (a .inserts) (a .items .now)) (stateOf (a .r) (a .es .now) (a .ws .now) (a .cs .now)))
+    Inserting (a .r .delay) (a .es .now) (a .ws .now) (a .cs .now) (fold insert (insertsIn w (a .inserts) (a .items .now)) (stateOf (a .r) (a .es .now) (a .ws .now) (a .cs .now)))
     (insertIn w (drop (l .at) (a .items .now)) ∷ insertsFrom w (a .inserts) (l .i + 1) (l .at + insertLen w (drop (l .at) (a .items .now))) (a .items .now)) (l .q) (l .es) (l .ws) (l .cs)
 turn c =
     let a = c .before .before .before .before .before .before .args in
     let l = c .before .loop in
     let w = lengthWidth (a .wide) in
-    subst (λ (x : List Entry). Inserting (a .es .now) (a .ws .now) (a .cs .now) (fold insert (insertsIn w (a .inserts) (a .items .now)) (stateOf (a .r) (a .es .now) (a .ws .now) (a .cs .now))) x (l .q) (l .es) (l .ws) (l .cs))
+    subst (λ (x : List Entry). Inserting (a .r .delay) (a .es .now) (a .ws .now) (a .cs .now) (fold insert (insertsIn w (a .inserts) (a .items .now)) (stateOf (a .r) (a .es .now) (a .ws .now) (a .cs .now))) x (l .q) (l .es) (l .ws) (l .cs))
     (inserts-turn w (a .inserts) (l .i) (l .at) 0 (a .items .now) (omega arith)) (l .inv .1)
 
 loop-holds : tie.Need-loop-holds Inv-loop μ-loop
@@ -38,13 +38,14 @@ loop-holds c =
     let w = lengthWidth (a .wide) in
     let z : a .inserts ≡ a .inserts - 0 = omega arith in (
       left-start w (a .inserts) (a .items .now) (s .pre .0),
-      subst (λ (k : ℕ). Inserting (a .es .now) (a .ws .now) (a .cs .now) (fold insert (insertsIn w (a .inserts) (a .items .now)) (stateOf (a .r) (a .es .now) (a .ws .now) (a .cs .now))) (insertsIn w k (a .items .now)) (a .r) (a .es .now) (a .ws .now) (a .cs .now)) z
+      subst (λ (k : ℕ). Inserting (a .r .delay) (a .es .now) (a .ws .now) (a .cs .now) (fold insert (insertsIn w (a .inserts) (a .items .now)) (stateOf (a .r) (a .es .now) (a .ws .now) (a .cs .now))) (insertsIn w k (a .items .now)) (a .r) (a .es .now) (a .ws .now) (a .cs .now)) z
           (record {
             running =
                 record {
                   u64-es = λ i. c .before .before .before .slice-known .given i .fits;
                   u64-ws = λ i. c .before .before .slice-known2 .given i .fits;
                   holding = s .pre .1 .0;
+                  same-delay = refl;
                   size-es = refl;
                   size-ws = refl;
                   size-cs = refl;
@@ -62,7 +63,7 @@ insert-at-requires c κs =
     let w = lengthWidth (a .wide) in
     let e = insertsLen w (a .inserts) (a .items .now) in (
       omega (arith, left-head w (a .inserts) (l .i) (l .at) e (a .items .now) (omega arith) (l .inv .0), l .inv .0 .inside),
-      insertable (a .es .now) (a .ws .now) (a .cs .now) (fold insert (insertsIn w (a .inserts) (a .items .now)) (stateOf (a .r) (a .es .now) (a .ws .now) (a .cs .now)))
+      insertable (a .r .delay) (a .es .now) (a .ws .now) (a .cs .now) (fold insert (insertsIn w (a .inserts) (a .items .now)) (stateOf (a .r) (a .es .now) (a .ws .now) (a .cs .now)))
           (insertIn w (drop (l .at) (a .items .now))) (insertsFrom w (a .inserts) (l .i + 1) (l .at + insertLen w (drop (l .at) (a .items .now))) (a .items .now)) (l .q) (l .es) (l .ws) (l .cs) (turn f),
     )
 
@@ -89,7 +90,7 @@ loop-again c =
     let e = insertsLen w (a .inserts) (a .items .now) in
     rw (c .insert-end .ensures) (
       left-next w (a .inserts) (l .i) (l .at) e (a .items .now) (omega (arith, f .loop-test)) (l .inv .0),
-      inserting-next (a .es .now) (a .ws .now) (a .cs .now) (fold insert (insertsIn w (a .inserts) (a .items .now)) (stateOf (a .r) (a .es .now) (a .ws .now) (a .cs .now)))
+      inserting-next (a .r .delay) (a .es .now) (a .ws .now) (a .cs .now) (fold insert (insertsIn w (a .inserts) (a .items .now)) (stateOf (a .r) (a .es .now) (a .ws .now) (a .cs .now)))
           (insertIn w (drop (l .at) (a .items .now))) (insertsFrom w (a .inserts) (l .i + 1) (l .at + insertLen w (drop (l .at) (a .items .now))) (a .items .now)) (l .q) (l .es) (l .ws) (l .cs) (turn f)
           _ _ _ _ (λ i. c .before .before .before .before .before .slice-known4 .given i .fits) (λ i. c .before .before .before .slice-known5 .given i .fits) (c .before .before .before .before .before .before .before .insert-at .ensures),
     )
@@ -109,8 +110,8 @@ returns c =
     let l = c .before .loop in
     let w = lengthWidth (a .wide) in
     let goal = fold insert (insertsIn w (a .inserts) (a .items .now)) (stateOf (a .r) (a .es .now) (a .ws .now) (a .cs .now)) in
-    inserting-done (a .es .now) (a .ws .now) (a .cs .now) goal (l .q) (l .es) (l .ws) (l .cs)
-    (subst (λ (x : List Entry). Inserting (a .es .now) (a .ws .now) (a .cs .now) goal x (l .q) (l .es) (l .ws) (l .cs)) (inserts-done w (a .inserts) (l .i) (l .at) 0 (a .items .now) (omega arith)) (l .inv .1))
+    inserting-done (a .r .delay) (a .es .now) (a .ws .now) (a .cs .now) goal (l .q) (l .es) (l .ws) (l .cs)
+    (subst (λ (x : List Entry). Inserting (a .r .delay) (a .es .now) (a .ws .now) (a .cs .now) goal x (l .q) (l .es) (l .ws) (l .cs)) (inserts-done w (a .inserts) (l .i) (l .at) 0 (a .items .now) (omega arith)) (l .inv .1))
 
 pub apply-inserts-spec : {M : Type 1} → statement M
 apply-inserts-spec =

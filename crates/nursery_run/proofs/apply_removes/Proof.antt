@@ -15,7 +15,7 @@ use Rattle.nursery_run.proofs.apply_removes.Statement.{statement}
 use Rattle.nursery_run.proofs.apply_removes.Tie as tie
 
 abbrev Inv-loop : tie.InvT-loop
-Inv-loop es₀ ws₀ cs₀ removes items at q₀ j₀ es ws cs q j = Running es₀ ws₀ cs₀ (fold remove (hashesIn removes (drop at items)) (stateOf q₀ es₀ ws₀ cs₀)) (fold remove (removesFrom removes j at items)) q es ws cs
+Inv-loop es₀ ws₀ cs₀ removes items at q₀ j₀ es ws cs q j = Running (q₀ .delay) es₀ ws₀ cs₀ (fold remove (hashesIn removes (drop at items)) (stateOf q₀ es₀ ws₀ cs₀)) (fold remove (removesFrom removes j at items)) q es ws cs
 
 abbrev μ-loop : tie.MeasureT-loop
 μ-loop es₀ ws₀ cs₀ removes items at q₀ j₀ es ws cs q j = removes - j
@@ -27,11 +27,12 @@ loop-holds c =
     let goal = fold remove (hashesIn (a .removes) (drop (a .at) (a .items .now))) (stateOf (a .r) (a .es .now) (a .ws .now) (a .cs .now)) in
     let z : a .removes ≡ a .removes - 0 = omega arith in
     let y : a .at ≡ a .at + 32 * 0 = omega arith in
-    subst (λ (x : List ℕ). Running (a .es .now) (a .ws .now) (a .cs .now) goal (fold remove x) (a .r) (a .es .now) (a .ws .now) (a .cs .now)) (ap₂ (λ (k p : ℕ). hashesIn k (drop p (a .items .now))) z y)
+    subst (λ (x : List ℕ). Running (a .r .delay) (a .es .now) (a .ws .now) (a .cs .now) goal (fold remove x) (a .r) (a .es .now) (a .ws .now) (a .cs .now)) (ap₂ (λ (k p : ℕ). hashesIn k (drop p (a .items .now))) z y)
     (record {
       u64-es = λ i. c .before .before .before .slice-known .given i .fits;
       u64-ws = λ i. c .before .before .slice-known2 .given i .fits;
       holding = s .pre .1;
+      same-delay = refl;
       size-es = refl;
       size-ws = refl;
       size-cs = refl;
@@ -63,10 +64,10 @@ loop-again c =
     let l = f .before .loop in
     let goal = fold remove (hashesIn (a .removes) (drop (a .at) (a .items .now))) (stateOf (a .r) (a .es .now) (a .ws .now) (a .cs .now)) in
     let turn = removes-turn (a .removes) (l .j) (a .at) (a .items .now) (omega (arith, f .loop-test)) in
-    removing-next (a .es .now) (a .ws .now) (a .cs .now) goal (hashIn (drop (a .at + 32 * l .j) (a .items .now))) (removesFrom (a .removes) (l .j + 1) (a .at) (a .items .now)) (l .q) (l .es) (l .ws) (l .cs)
-    (subst (λ (x : List ℕ). Running (a .es .now) (a .ws .now) (a .cs .now) goal (fold remove x) (l .q) (l .es) (l .ws) (l .cs)) turn (l .inv))
+    removing-next (a .r .delay) (a .es .now) (a .ws .now) (a .cs .now) goal (hashIn (drop (a .at + 32 * l .j) (a .items .now))) (removesFrom (a .removes) (l .j + 1) (a .at) (a .items .now)) (l .q) (l .es) (l .ws) (l .cs)
+    (subst (λ (x : List ℕ). Running (a .r .delay) (a .es .now) (a .ws .now) (a .cs .now) goal (fold remove x) (l .q) (l .es) (l .ws) (l .cs)) turn (l .inv))
     _ _ _ _ (λ i. c .before .before .before .before .slice-known4 .given i .fits) (λ i. c .before .before .slice-known5 .given i .fits)
-    (c .before .before .before .before .before .before .remove-held .ensures ∙ ap (λ (x : ℕ). laid (l .es) (l .ws) (l .cs) (remove x (stateOf (l .q) (l .es) (l .ws) (l .cs)))) (c .before .before .before .before .before .before .before .before .before .before .wide-of .ensures))
+    (c .before .before .before .before .before .before .remove-held .ensures ∙ ap (λ (x : ℕ). laid (l .q .delay) (l .es) (l .ws) (l .cs) (remove x (stateOf (l .q) (l .es) (l .ws) (l .cs)))) (c .before .before .before .before .before .before .before .before .before .before .wide-of .ensures))
 
 same-length : tie.Need-same-length Inv-loop μ-loop
 same-length c = c .before .loop .inv .size-es
@@ -82,8 +83,8 @@ returns c =
     let a = c .before .before .before .before .before .before .args in
     let l = c .before .loop in
     let goal = fold remove (hashesIn (a .removes) (drop (a .at) (a .items .now))) (stateOf (a .r) (a .es .now) (a .ws .now) (a .cs .now)) in
-    removing-done (a .es .now) (a .ws .now) (a .cs .now) goal (l .q) (l .es) (l .ws) (l .cs)
-    (subst (λ (x : List ℕ). Running (a .es .now) (a .ws .now) (a .cs .now) goal (fold remove x) (l .q) (l .es) (l .ws) (l .cs)) (removes-done (a .removes) (l .j) (a .at) (a .items .now) (omega arith)) (l .inv))
+    removing-done (a .r .delay) (a .es .now) (a .ws .now) (a .cs .now) goal (l .q) (l .es) (l .ws) (l .cs)
+    (subst (λ (x : List ℕ). Running (a .r .delay) (a .es .now) (a .ws .now) (a .cs .now) goal (fold remove x) (l .q) (l .es) (l .ws) (l .cs)) (removes-done (a .removes) (l .j) (a .at) (a .items .now) (omega arith)) (l .inv))
 
 pub apply-removes-spec : {M : Type 1} → statement M
 apply-removes-spec =

@@ -58,7 +58,7 @@ returns : tie.Need-returns
 returns c =
     let f = c .before .before .before .before .before .before .before .before .before .before in
     let a = f .before .before .before .before .before .before .before .before .before .args in
-    c .before .before .before .before .before .before .insert-held .ensures ∙ ap (λ (x : Entry). laid (a .es .now) (a .ws .now) (a .cs .now) (insert x (stateOf (a .r) (a .es .now) (a .ws .now) (a .cs .now)))) (entry f)
+    c .before .before .before .before .before .before .insert-held .ensures ∙ ap (λ (x : Entry). laid (a .r .delay) (a .es .now) (a .ws .now) (a .cs .now) (insert x (stateOf (a .r) (a .es .now) (a .ws .now) (a .cs .now)))) (entry f)
 
 pub insert-at-spec : {M : Type 1} → statement M
 insert-at-spec =
