@@ -8,12 +8,12 @@ use lib.Dec.{ltb, eqb}
 use Rattle.base.specs.Logic.{pick, flat, overlay}
 use Rattle.base.specs.Bytes.{le64}
 use Rattle.base.specs.Answers.{Outcome, refused, taken, either, _>>=_, _>>_, refuseIf}
-use Rattle.base.specs.declared.Refusal.the-variants.{OutputFull, Damaged}
+use Rattle.base.specs.declared.Refusal.the-variants.{OutputFull, Damaged, BadSetting}
 use Rattle.base.specs.declared.Answer.the-variants.{Taken, Refused}
 use Rattle.cell_nursery.specs.Entries.{empty}
 use Rattle.cell_nursery.specs.Items.{Delta}
 use Rattle.cell_nursery.specs.Delta.{applyDelta}
-use Rattle.cell_nursery.specs.Layout.{roomOf}
+use Rattle.cell_nursery.specs.Layout.{roomOf, delayInRange}
 use Rattle.format.specs.declared.RecordStats.{RecordStats}
 use Rattle.format.specs.Record.{Decoding, recordBytes, usedBytes, leftover, parse}
 use Rattle.journal.specs.declared.Converted.{Converted}
@@ -97,8 +97,10 @@ parsedStep hash f s bs = do
   taken (t, d .stats .«payload_bytes»)
 
 -- `Journal.readCall`, but that leftovers are passed over
-unfoldable pub readBefore : (List ℕ → List ℕ) → List ℕ → List ℕ → List ℕ → List ℕ → ReadIn
-readBefore hash bs es ws cs =
-    pick (damages (recordsFrom (length bs) (parsedStep {S = Unit {0}} hash (λ u d. taken u)) tt 0 0 bs .ended))
+unfoldable pub readBefore : (List ℕ → List ℕ) → ℕ → List ℕ → List ℕ → List ℕ → List ℕ → ReadIn
+readBefore hash delay bs es ws cs =
+    pick (delayInRange delay)
+    (pick (damages (recordsFrom (length bs) (parsedStep {S = Unit {0}} hash (λ u d. taken u)) tt 0 0 bs .ended))
     (notRead Damaged es ws cs)
-    (readOut es ws cs (recordsFrom (length bs) (parsedStep hash (applyDelta (roomOf es ws cs))) empty 0 0 bs))
+    (readOut delay es ws cs (recordsFrom (length bs) (parsedStep hash (applyDelta (roomOf es ws cs))) empty 0 0 bs)))
+    (notRead BadSetting es ws cs)

@@ -8,6 +8,7 @@ use lib.ListN.{take, drop, replicate}
 use Rattle.base.specs.Logic.{zeros}
 use Rattle.base.specs.Answers.{answerNumber}
 use Rattle.cell_nursery.specs.Entries.{Entry, empty, insert}
+use Rattle.cell_nursery.specs.Drain.{promotionDelay}
 use Rattle.cell_nursery.specs.Layout.{recordOf, entriesTable, waitingTable}
 use Rattle.format.specs.Record.{recordBytes}
 use Rattle.journal.specs.Journal.{ReadIn, scan, readCall}
@@ -58,27 +59,38 @@ pub record Ending : Type 0 where
   pub place : ℕ
   pub number : ℕ
 
--- how the reading of bytes into tables with room for two entries ends
-abbrev ending : List ℕ → Ending
-ending bs =
-    let r = readCall firstBytes bs (zeros 16) (zeros 10) [] .result in
+-- how the reading of bytes into tables with room for two entries ends, under a delay
+abbrev endingUnder : ℕ → List ℕ → Ending
+endingUnder delay bs =
+    let r = readCall firstBytes delay bs (zeros 16) (zeros 10) [] .result in
     record { answer = answerNumber (r .answer); applied = r .applied; place = r .place; number = answerNumber (r .ended) }
+
+-- under document 01's delay
+abbrev ending : List ℕ → Ending
+ending bs = endingUnder promotionDelay bs
 
 -- a whole record and a cut one, read into tables that have any content
 abbrev stopped : ReadIn
-stopped = readCall firstBytes (put 1 ++ take 101 (put 2)) (9 ∷ zeros 16) (9 ∷ zeros 10) (9 ∷ [])
+stopped = readCall firstBytes promotionDelay (put 1 ++ take 101 (put 2)) (9 ∷ zeros 16) (9 ∷ zeros 10) (9 ∷ [])
 
--- that the reading is refused
+-- that the reading is refused: for damage, and for its delay
 abbrev turned-down : Ending
 turned-down = record { answer = 21; applied = 0; place = 0; number = 0 }
+
+abbrev set-wrong : Ending
+set-wrong = record { answer = 23; applied = 0; place = 0; number = 0 }
 
 -- how the scan of bytes ends
 abbrev scanned : List ℕ → Ending
 scanned bs = let r = scan firstBytes bs in record { answer = 0; applied = r .records; place = r .place; number = answerNumber (r .ended) }
 
+-- a whole record read under a delay that is out of range
+abbrev unset : ReadIn
+unset = readCall firstBytes 0 (put 1) (9 ∷ zeros 16) (9 ∷ zeros 10) (9 ∷ [])
+
 -- a whole record and a damaged one, read into tables that have any content
 abbrev unread : ReadIn
-unread = readCall firstBytes (put 1 ++ spoiled (put 2)) (9 ∷ zeros 16) (9 ∷ zeros 10) (9 ∷ [])
+unread = readCall firstBytes promotionDelay (put 1 ++ spoiled (put 2)) (9 ∷ zeros 16) (9 ∷ zeros 10) (9 ∷ [])
 
 pub record Endings : Type 0 where
   -- no byte, and records up to the end; one that does nothing is applied and counted
@@ -113,15 +125,27 @@ pub record Endings : Type 0 where
   full : ending (put 1 ++ put 2 ++ put 3 ++ takeOut 1) ≡ record { answer = 0; applied = 2; place = 204; number = 13 }
   room-again : ending (put 1 ++ put 2 ++ takeOut 1 ++ put 3) ≡ record { answer = 0; applied = 4; place = 394; number = 0 }
   -- what was applied stays, each entry waits, and the tables may have any content
-  stays : stopped .result .nursery ≡ recordOf (insert (entry 1) empty)
+  stays : stopped .result .nursery ≡ recordOf promotionDelay (insert (entry 1) empty)
   stays-entries : stopped .entries ≡ entriesTable 17 (insert (entry 1) empty)
   stays-waiting : stopped .waiting ≡ waitingTable 11 (insert (entry 1) empty)
   stays-cells : stopped .cells ≡ 0 ∷ []
   -- beside a refusal the record is of zeros, and the tables are as they were
-  untouched : unread .result .nursery ≡ recordOf empty
+  untouched : unread .result .nursery ≡ recordOf 0 empty
   untouched-entries : unread .entries ≡ 9 ∷ zeros 16
   untouched-waiting : unread .waiting ≡ 9 ∷ zeros 10
   untouched-cells : unread .cells ≡ 9 ∷ []
+  unset-whole : unset .result .nursery ≡ recordOf 0 empty
+  unset-entries : unset .entries ≡ 9 ∷ zeros 16
+  unset-waiting : unset .waiting ≡ 9 ∷ zeros 10
+  unset-cells : unset .cells ≡ 9 ∷ []
+  -- 23 comes before 21, and before the journal's end; the delay is from 1 to 10,000 rounds
+  set-before-damage : endingUnder 0 (spoiled (put 1)) ≡ set-wrong
+  set-over-damage : endingUnder 10001 (put 1 ++ far) ≡ set-wrong
+  set-zero : endingUnder 0 [] ≡ set-wrong
+  set-over : endingUnder 10001 [] ≡ set-wrong
+  set-least : endingUnder 1 (put 1) ≡ record { answer = 0; applied = 1; place = 102; number = 0 }
+  set-most : endingUnder 10000 (put 1) ≡ record { answer = 0; applied = 1; place = 102; number = 0 }
+  set-kept : readCall firstBytes 7 (put 1) (zeros 8) (zeros 5) [] .result .nursery ≡ recordOf 7 (insert (entry 1) empty)
 
 pub endings : Endings
 unfolding evaluation
@@ -160,4 +184,15 @@ endings =
       untouched-entries = refl;
       untouched-waiting = refl;
       untouched-cells = refl;
+      unset-whole = refl;
+      unset-entries = refl;
+      unset-waiting = refl;
+      unset-cells = refl;
+      set-before-damage = refl;
+      set-over-damage = refl;
+      set-zero = refl;
+      set-over = refl;
+      set-least = refl;
+      set-most = refl;
+      set-kept = refl;
     }

@@ -1,7 +1,7 @@
 -- Laws of records end to end: what a record does, any fuel as large as the bytes are many gives the same, one record is one step, and what each record keeps
 -- holds at the end.
 -- Assumes nothing.
-use mathlib.Core.Path.{_≡_, refl, sym, ap, _∙_}
+use mathlib.Core.Path.{_≡_, refl, sym, ap, subst, _∙_}
 use mathlib.Core.Logic.{_↔_, _⊎_, inl, inr}
 use mathlib.Core.Bool.{Bool, true, false, not, false≢true}
 use mathlib.Core.List.{List, [], _∷_}
@@ -9,15 +9,19 @@ use Prim.Native.Nat.{ℕ, zero, suc, _+_, _≤_, _<_}
 use native.Mathlib.Omega.{arith}
 use lib.ListN.{length, drop, length-drop}
 use borrow.Author.Tests.{eq-eqb, ne-eqb}
-use Rattle.base.specs.Answers.{Outcome, refused, taken, either, numberOf, _>>=_}
+use Rattle.base.specs.Logic.{any}
+use Rattle.base.specs.Answers.{Outcome, refused, taken, either, numberOf, answerNumber, _>>=_}
 use Rattle.base.specs.OutcomeLaws.{refused-taken, taken-refused, taken-same}
-use Rattle.base.specs.AnswerLaws.{not-refused}
+use Rattle.base.specs.AnswerLaws.{not-refused, exactly, Answers}
 use Rattle.base.specs.declared.Refusal.{Refusal}
-use Rattle.base.specs.declared.Refusal.the-variants.{ShortRecord, Damaged}
+use Rattle.base.specs.declared.Refusal.the-variants.{ShortRecord, Damaged, BadSetting}
+use Rattle.base.specs.declared.Answer.{Answer}
 use Rattle.base.specs.declared.Answer.the-variants.{Taken, Refused}
 use Rattle.cell_nursery.specs.Entries.{State}
 use Rattle.cell_nursery.specs.Delta.{Room, applyDelta}
-use Rattle.cell_nursery.specs.Layout.{roomOf}
+use Rattle.cell_nursery.specs.Layout.{roomOf, recordOf, delayInRange}
+use Rattle.cell_nursery.specs.SettingLaws.{delay-range}
+use Rattle.cell_nursery.specs.Calls.{laid}
 use Rattle.format.specs.Record.{Decoding, decode}
 use Rattle.journal.specs.Journal.{End, Step, recordsFrom, passRecord, damages, damaged, applyRecord, readJournal, ReadIn, notRead, readOut, readCall}
 
@@ -185,22 +189,94 @@ damages-other q = (
   λ n. ap not (ne-eqb (numberOf q) (numberOf ShortRecord) n),
 )
 
-module _ (hash : List ℕ → List ℕ) (bs es ws cs : List ℕ) where
-  -- a damaged journal isn't read, any other one is
-  pub read-damaged : damaged hash bs ≡ true → readCall hash bs es ws cs ≡ notRead Damaged es ws cs
+module _ (hash : List ℕ → List ℕ) (delay : ℕ) (bs es ws cs : List ℕ) where
+  -- a delay out of range isn't read with
+  pub read-bad : delayInRange delay ≡ false → readCall hash delay bs es ws cs ≡ notRead BadSetting es ws cs
   unfolding readCall
-  read-damaged e = rw e
+  read-bad o = rw o
 
-  pub read-undamaged : damaged hash bs ≡ false → readCall hash bs es ws cs ≡ readOut es ws cs (readJournal hash (roomOf es ws cs) bs)
-  unfolding readCall
-  read-undamaged e = rw e
+  -- with another a damaged journal isn't read, any other one is
+  module _ (o : delayInRange delay ≡ true) where
+    pub read-damaged : damaged hash bs ≡ true → readCall hash delay bs es ws cs ≡ notRead Damaged es ws cs
+    unfolding readCall
+    read-damaged e = rw (o, e)
 
-  -- a reading that is taken is that of its records, none of which is damaged
-  pub read-taken : readCall hash bs es ws cs .result .answer ≡ Taken
-      → (damaged hash bs ≡ false) × (readCall hash bs es ws cs ≡ readOut es ws cs (readJournal hash (roomOf es ws cs) bs))
-  unfolding notRead
-  read-taken t = go (damaged hash bs) refl
+    pub read-undamaged : damaged hash bs ≡ false → readCall hash delay bs es ws cs ≡ readOut delay es ws cs (readJournal hash (roomOf es ws cs) bs)
+    unfolding readCall
+    read-undamaged e = rw (o, e)
+
+  abbrev read-answer : Answer
+  read-answer = readCall hash delay bs es ws cs .result .answer
+
+  -- the answer, and when it is which
+  data Judged : Answer → Type 0 where
+    bad : delayInRange delay ≡ false → Judged (Refused BadSetting)
+    damage : delayInRange delay ≡ true → damaged hash bs ≡ true → Judged (Refused Damaged)
+    read : delayInRange delay ≡ true → damaged hash bs ≡ false → Judged Taken
+
+  judged : Judged read-answer
+  unfolding notRead readOut
+  judged = go (delayInRange delay) (damaged hash bs) refl refl
     where
-      go : (d : Bool) → damaged hash bs ≡ d → (damaged hash bs ≡ false) × (readCall hash bs es ws cs ≡ readOut es ws cs (readJournal hash (roomOf es ws cs) bs))
-      go true e = absurd (not-refused (sym t ∙ ap (λ (c : ReadIn). c .result .answer) (read-damaged e)))
-      go false e = (e, read-undamaged e)
+      Of : ReadIn → Type 0
+      Of c = Judged (c .result .answer)
+
+      go : (a b : Bool) → delayInRange delay ≡ a → damaged hash bs ≡ b → Judged read-answer
+      go false b o e = subst Of (sym (read-bad o)) (bad o)
+      go true true o e = subst Of (sym (read-damaged o e)) (damage o e)
+      go true false o e = subst Of (sym (read-undamaged o e)) (read o e)
+
+  -- a reading that is taken is that of its records, none of which is damaged, by a delay in range
+  pub read-taken : read-answer ≡ Taken
+      → (damaged hash bs ≡ false) × (readCall hash delay bs es ws cs ≡ readOut delay es ws cs (readJournal hash (roomOf es ws cs) bs)) × (delayInRange delay ≡ true)
+  read-taken t = go read-answer judged t
+    where
+      go : (a : Answer) → Judged a → a ≡ Taken
+          → (damaged hash bs ≡ false) × (readCall hash delay bs es ws cs ≡ readOut delay es ws cs (readJournal hash (roomOf es ws cs) bs)) × (delayInRange delay ≡ true)
+      go (Refused BadSetting) (bad o) e = absurd (not-refused (sym e))
+      go (Refused Damaged) (damage o d) e = absurd (not-refused (sym e))
+      go Taken (read o d) e = (d, read-undamaged o d, o)
+
+  -- 23, bad setting: a delay of no round, or of more than 10,000
+  pub read-setting : (read-answer ≡ Refused BadSetting) ↔ ((delay ≡ 0) ⊎ (10000 < delay))
+  unfolding notRead
+  read-setting = exactly (go read-answer judged, λ o. ap (λ (c : ReadIn). c .result .answer) (read-bad o)) (delay-range delay)
+    where
+      go : (a : Answer) → Judged a → a ≡ Refused BadSetting → delayInRange delay ≡ false
+      go (Refused BadSetting) (bad o) e = o
+      go (Refused Damaged) (damage o d) e = let z : _≡_ {A = ℕ} 21 23 = ap answerNumber e in absurd (omega arith)
+      go Taken (read o d) e = absurd (not-refused e)
+
+  -- 21, damaged: another delay, and a damaged journal
+  pub read-damage : (read-answer ≡ Refused Damaged) ↔ ((delayInRange delay ≡ true) × (damaged hash bs ≡ true))
+  unfolding notRead
+  read-damage = (go read-answer judged, λ (o, d). ap (λ (c : ReadIn). c .result .answer) (read-damaged o d))
+    where
+      go : (a : Answer) → Judged a → a ≡ Refused Damaged → (delayInRange delay ≡ true) × (damaged hash bs ≡ true)
+      go (Refused BadSetting) (bad o) e = let z : _≡_ {A = ℕ} 23 21 = ap answerNumber e in absurd (omega arith)
+      go (Refused Damaged) (damage o d) e = (o, d)
+      go Taken (read o d) e = absurd (not-refused e)
+
+  -- 23 or 21, and no other
+  pub read-numbers : Answers (23 ∷ 21 ∷ []) read-answer
+  unfolding any
+  read-numbers = go read-answer judged
+    where
+      go : (a : Answer) → Judged a → Answers (23 ∷ 21 ∷ []) a
+      go (Refused BadSetting) (bad o) q e = let same : q ≡ BadSetting = cc in rw same
+      go (Refused Damaged) (damage o d) q e = let same : q ≡ Damaged = cc in rw same
+      go Taken (read o d) q e = absurd (not-refused e)
+
+  -- beside a refusal all is zeros, and the tables are as they were
+  pub read-refused : (q : Refusal) → read-answer ≡ Refused q → readCall hash delay bs es ws cs ≡ notRead q es ws cs
+  read-refused q = go read-answer judged
+    where
+      go : (a : Answer) → Judged a → a ≡ Refused q → readCall hash delay bs es ws cs ≡ notRead q es ws cs
+      go (Refused BadSetting) (bad o) e = let same : BadSetting ≡ q = cc in rw (← same) (read-bad o)
+      go (Refused Damaged) (damage o d) e = let same : Damaged ≡ q = cc in rw (← same) (read-damaged o d)
+      go Taken (read o d) e = absurd (not-refused e)
+
+  -- the nursery of a reading that is taken has the delay that was given
+  pub read-delay : read-answer ≡ Taken → readCall hash delay bs es ws cs .result .nursery .delay ≡ delay
+  unfolding readOut laid recordOf
+  read-delay t = ap (λ (c : ReadIn). c .result .nursery .delay) (read-taken t .1)

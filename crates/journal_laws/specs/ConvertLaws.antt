@@ -19,12 +19,12 @@ use Rattle.base.specs.Answers.{Outcome, refused, taken, numberOf, _>>=_, _>>_, 
 use Rattle.base.specs.AnswerLaws.{exactly, ends-twice, Answers, says, says-numbers, not-refused}
 use Rattle.base.specs.OutcomeLaws.{taken-refused, ends-here, refuses-none, refuses-step}
 use Rattle.base.specs.declared.Refusal.{Refusal}
-use Rattle.base.specs.declared.Refusal.the-variants.{OutputFull, ShortRecord, Damaged, Leftover}
+use Rattle.base.specs.declared.Refusal.the-variants.{OutputFull, ShortRecord, Damaged, Leftover, BadSetting}
 use Rattle.base.specs.declared.Answer.the-variants.{Taken, Refused}
 use Rattle.cell_nursery.specs.Entries.{State, empty}
 use Rattle.cell_nursery.specs.Items.{Delta}
 use Rattle.cell_nursery.specs.Delta.{Room, applyDelta}
-use Rattle.cell_nursery.specs.Layout.{roomOf}
+use Rattle.cell_nursery.specs.Layout.{roomOf, delayInRange}
 use Rattle.format.specs.Payload.{payloadBytes}
 use Rattle.format.specs.Record.{Decoding, statsOf, recordBytes, leftover, parse, decode}
 use Rattle.format.specs.RecordLaws.{length-record, Fits, decode-whole}
@@ -215,25 +215,27 @@ module _ (hash : List ℕ → List ℕ) (long : (b : List ℕ) → length (hash 
   convert-again bs b = again (walked hash bs) b 0 0
 
   -- ---- reading the new journal is reading the old one by the rule before, but for the place
-  pub convert-reads : (bs es ws cs : List ℕ) → Bytes bs → besidePlace (readCall hash (convert hash bs .bytes) es ws cs) ≡ besidePlace (readBefore hash bs es ws cs)
+  pub convert-reads : (delay : ℕ) (bs es ws cs : List ℕ) → Bytes bs
+      → besidePlace (readCall hash delay (convert hash bs .bytes) es ws cs) ≡ besidePlace (readBefore hash delay bs es ws cs)
   unfolding readCall readBefore damaged readJournal readOut besidePlace
-  convert-reads bs es ws cs b = rw (scan-ends bs b) (go (damages (recordsIn passedBefore tt 0 0 bs .ended)))
+  convert-reads delay bs es ws cs b = rw (scan-ends bs b) (go (delayInRange delay) (damages (recordsIn passedBefore tt 0 0 bs .ended)))
     where
       m : Room
       m = roomOf es ws cs
 
       now : ReadIn
-      now = readOut es ws cs (readJournal hash m (convert hash bs .bytes))
+      now = readOut delay es ws cs (readJournal hash m (convert hash bs .bytes))
 
       then : ReadIn
-      then = readOut es ws cs (recordsIn (parsedStep hash (applyDelta m)) empty 0 0 bs)
+      then = readOut delay es ws cs (recordsIn (parsedStep hash (applyDelta m)) empty 0 0 bs)
 
       read : besidePlace now ≡ besidePlace then
-      read = rw (applying hash m) (ap (λ (e : End State). besidePlace (readOut es ws cs e)) (convert-ends (applyDelta m) bs b empty))
+      read = rw (applying hash m) (ap (λ (e : End State). besidePlace (readOut delay es ws cs e)) (convert-ends (applyDelta m) bs b empty))
 
-      go : (c : Bool) → besidePlace (pick c (notRead Damaged es ws cs) now) ≡ besidePlace (pick c (notRead Damaged es ws cs) then)
-      go true = refl
-      go false = read
+      go : (o c : Bool) → besidePlace (pick o (pick c (notRead Damaged es ws cs) now) (notRead BadSetting es ws cs)) ≡ besidePlace (pick o (pick c (notRead Damaged es ws cs) then) (notRead BadSetting es ws cs))
+      go true true = refl
+      go true false = read
+      go false c = refl
 
 -- ---- the call
 module _ (hash : List ℕ → List ℕ) (bs out dropped : List ℕ) where

@@ -1,8 +1,8 @@
 -- How a journal's reading ends: with each number exactly when, and with no other; and when it is refused.
 -- Assumes nothing.
-use mathlib.Core.Path.{_≡_, refl, sym, ap, _∙_}
+use mathlib.Core.Path.{_≡_, refl, sym, ap, subst, _∙_}
 use mathlib.Core.Logic.{_↔_, _⊎_, inl, inr}
-use mathlib.Core.Bool.{Bool, true, false, _||_, false≢true}
+use mathlib.Core.Bool.{Bool, true, false, _||_, false≢true, or-true}
 use mathlib.Core.Option.{some}
 use mathlib.Core.List.{List, [], _∷_}
 use Prim.Native.Nat.{ℕ, suc, _+_, _-_, _^_, _≤_, _<_}
@@ -16,23 +16,23 @@ use Rattle.base.specs.ListLaws.{fails-not, all-drop}
 use Rattle.base.specs.Answers.{refused, taken, either, numberOf, answerNumber}
 use Rattle.base.specs.OutcomeLaws.{other-number, taken-refused, ends-here, ends-later, never-ends, Refuses, refuses-none, refuses-step}
 use Rattle.base.specs.declared.Refusal.{Refusal}
-use Rattle.base.specs.declared.Refusal.the-variants.{Present, NurseryFull, ShortRecord, Mismatch, Damaged}
+use Rattle.base.specs.declared.Refusal.the-variants.{Present, NurseryFull, ShortRecord, Mismatch, Damaged, BadSetting}
 use Rattle.base.specs.declared.Answer.{Answer}
 use Rattle.base.specs.declared.Answer.the-variants.{Taken, Refused}
 use Rattle.slices.specs.Laws.{eqbList-true, eqbList-false}
 use Rattle.cell_nursery.specs.Entries.{State, empty}
 use Rattle.cell_nursery.specs.Items.{Delta}
 use Rattle.cell_nursery.specs.Delta.{Room, tooLong, present, full, stateAfter, applyDelta}
-use Rattle.cell_nursery.specs.Layout.{roomOf}
+use Rattle.cell_nursery.specs.Layout.{roomOf, delayInRange}
 use Rattle.cell_nursery.specs.SpellLaws.{fits-short}
 use Rattle.cell_nursery.specs.RefusalLaws.{delta-numbers}
-use Rattle.base.specs.AnswerLaws.{not-refused, exactly}
+use Rattle.base.specs.AnswerLaws.{not-refused, exactly, Answers}
 use Rattle.format.specs.Record.{Decoding, decode}
 use Rattle.format.specs.RefusalLaws.{stated, Whole, Matches, decode-short, decode-mismatch, decode-taken, decode-numbers}
 use Rattle.format.specs.TakenLaws.{taken-lent}
 use Rattle.format.specs.ExactLaws.{parsed}
-use Rattle.journal.specs.Journal.{End, passRecord, scan, damages, damaged, applyRecord, readJournal, ReadIn, notRead, readOut, readCall}
-use Rattle.journal.specs.ReadLaws.{RecordRefused, record-refused, record-taken, passed-refused, passed-taken, recordsIn, records-taken, records-refused, Stopped, at-end, at-record, records-ends, damages-other, read-damaged, read-undamaged}
+use Rattle.journal.specs.Journal.{End, passRecord, scan, damages, damaged, applyRecord, readJournal, ReadIn, readOut, readCall}
+use Rattle.journal.specs.ReadLaws.{RecordRefused, record-refused, record-taken, passed-refused, passed-taken, recordsIn, records-taken, records-refused, Stopped, at-end, at-record, records-ends, damages-other, read-taken, read-setting, read-damage, read-numbers}
 use Rattle.base.specs.SpellLaws.{Bytes}
 
 -- ---- a record's delta is never too long: a cell's length has two bytes, a list's four
@@ -236,10 +236,11 @@ module _ (hash : List ℕ → List ℕ) (bs es ws cs : List ℕ) where
         ↔ ((d : Decoding) × (decode hash (drop place bs) ≡ taken d) × ((present sofar (d .delta) ≡ false) × (full room sofar (d .delta) ≡ true)))
     pub numbers : elem (answerNumber ended) endNumbers ≡ true
 
-  -- 21 exactly where a record is damaged, and no other refusal
-  pub record ReadEnds (c : ReadIn) : Type 0 where
-    pub damaged-record : (c .result .answer ≡ Refused Damaged) ↔ DamagedRecord hash bs
-    pub answers : elem (answerNumber (c .result .answer)) (0 ∷ 21 ∷ []) ≡ true
+  -- 23 exactly where the delay is out of range, 21 exactly where it isn't and a record is damaged, and no other refusal
+  pub record ReadEnds (delay : ℕ) (c : ReadIn) : Type 0 where
+    pub bad-setting : (c .result .answer ≡ Refused BadSetting) ↔ ((delay ≡ 0) ⊎ (10000 < delay))
+    pub damaged-record : (c .result .answer ≡ Refused Damaged) ↔ ((delayInRange delay ≡ true) × DamagedRecord hash bs)
+    pub answers : elem (answerNumber (c .result .answer)) (0 ∷ 23 ∷ 21 ∷ []) ≡ true
     pub ends : c .result .answer ≡ Taken → Ends (c .result .ended) (c .result .place)
 
   -- over bytes, of which no record is damaged
@@ -306,22 +307,20 @@ module _ (hash : List ℕ → List ℕ) (bs es ws cs : List ℕ) where
           numbers = all-numbers;
         }
 
-  pub read-ends : Bytes bs → ReadEnds (readCall hash bs es ws cs)
-  unfolding readOut notRead any
-  read-ends b = go (damaged hash bs) refl
+  pub read-ends : (delay : ℕ) → Bytes bs → ReadEnds delay (readCall hash delay bs es ws cs)
+  unfolding readOut any
+  read-ends delay b =
+      record {
+        bad-setting = read-setting hash delay bs es ws cs;
+        damaged-record =
+            exactly (read-damage hash delay bs es ws cs) (
+              (λ (o, d). (o, damaged-exactly hash bs .0 d)),
+              λ (o, x). (o, damaged-exactly hash bs .1 x),
+            );
+        answers = go (readCall hash delay bs es ws cs .result .answer) (read-numbers hash delay bs es ws cs);
+        ends = λ t. let r = read-taken hash delay bs es ws cs t in subst (λ (c : ReadIn). Ends (c .result .ended) (c .result .place)) (sym (r .1)) (taken-ends b (r .0));
+      }
     where
-      go : (d : Bool) → damaged hash bs ≡ d → ReadEnds (readCall hash bs es ws cs)
-      go true e =
-          rw (read-damaged hash bs es ws cs e)
-          (record {
-            damaged-record = ((λ f. damaged-exactly hash bs .0 e), λ x. refl);
-            answers = refl;
-            ends = λ f. absurd (not-refused (sym f));
-          })
-      go false e =
-          rw (read-undamaged hash bs es ws cs e)
-          (record {
-            damaged-record = ((λ f. absurd (not-refused f)), λ x. absurd (false≢true (sym e ∙ damaged-exactly hash bs .1 x)));
-            answers = refl;
-            ends = λ f. taken-ends b e;
-          })
+      go : (a : Answer) → Answers (23 ∷ 21 ∷ []) a → elem (answerNumber a) (0 ∷ 23 ∷ 21 ∷ []) ≡ true
+      go Taken h = refl
+      go (Refused q) h = rw (h q refl) (or-true (eqb (numberOf q) 0))

@@ -18,9 +18,10 @@ use Rattle.cell_nursery.specs.Entries.{State, empty, cellBytes}
 use Rattle.cell_nursery.specs.Delta.{stateAfter, applyDelta}
 use Rattle.cell_nursery.specs.Items.{Delta, deltaOf}
 use Rattle.cell_nursery.specs.Drain.{drained, drainBytes}
-use Rattle.cell_nursery.specs.Layout.{recordOf, entriesTable, waitingTable, cellsTable, roomOf, stateOf, holds}
+use Rattle.cell_nursery.specs.Layout.{recordOf, entriesTable, waitingTable, cellsTable, roomOf, stateOf, delayInRange, holds}
 use Rattle.cell_nursery.specs.HashLaws.{U64}
 use Rattle.cell_nursery.specs.LayoutLaws.{Held, WellFormed, held, holds-laid, number-entries}
+use Rattle.cell_nursery.specs.SettingLaws.{new-taken}
 use Rattle.cell_nursery.specs.EntryLaws.{well-empty, well-after, well-drained, InRoom, room-empty, room-after}
 use Rattle.cell_nursery.specs.Calls.{Changed, DrainedOut, laid, laidOut, onState, newCall, lengthWidth, deltaCall, drainedOut, drainCall}
 use Rattle.base.specs.SpellLaws.{Bytes}
@@ -30,13 +31,13 @@ use Rattle.journal_laws.specs.DeltaLaws.{delta-read, delta-fits, taken-a
 abbrev pub Leaves : Changed → Type 0
 Leaves c = holds (c .result .nursery) (c .entries) (c .waiting) (c .cells) ≡ true
 
-laid-holds : (es ws cs : List ℕ) (s : State) → WellFormed s → InRoom (min (length es / 8) (length ws / 5)) (length cs) s → Leaves (laid es ws cs s)
+laid-holds : (delay : ℕ) → delayInRange delay ≡ true → (es ws cs : List ℕ) (s : State) → WellFormed s → InRoom (min (length es / 8) (length ws / 5)) (length cs) s
+    → Leaves (laid delay es ws cs s)
 unfolding laid
-laid-holds es ws cs s w i = holds-laid s (length es) (length ws) (length cs) w (i .rows-fit) (i .bytes-fit)
+laid-holds delay o es ws cs s w i = holds-laid s (length es) (length ws) (length cs) w (i .rows-fit) (i .bytes-fit) delay o
 
-pub new-holds : (es ws cs : List ℕ) → Leaves (newCall es ws cs)
-unfolding newCall
-new-holds es ws cs = laid-holds es ws cs empty well-empty (room-empty _ _)
+pub new-holds : (delay : ℕ) → delayInRange delay ≡ true → (es ws cs : List ℕ) → Leaves (newCall delay es ws cs)
+new-holds delay o es ws cs = rw (new-taken delay es ws cs o) (laid-holds delay o es ws cs empty well-empty (room-empty _ _))
 
 module _ (r : Nursery) (es ws cs : List ℕ) (u : U64 es) (v : U64 ws) (h : holds r es ws cs ≡ true) where
   abbrev s : State
@@ -48,7 +49,7 @@ module _ (r : Nursery) (es ws cs : List ℕ) (u : U64 es) (v : U64 ws) (h : hold
   -- ---- a delta
   module _ (wide : Bool) (inserts removes : ℕ) (items : List ℕ) (b : Bytes items) where
     outcome : deltaCall r es ws cs wide inserts removes items
-        ≡ laidOut r es ws cs (orRefuse Broken (deltaOf (lengthWidth wide) inserts removes items) >>= applyDelta (roomOf es ws cs) s)
+        ≡ laidOut (r .delay) r es ws cs (orRefuse Broken (deltaOf (lengthWidth wide) inserts removes items) >>= applyDelta (roomOf es ws cs) s)
     unfolding deltaCall onState
     outcome = rw h
 
@@ -57,33 +58,33 @@ module _ (r : Nursery) (es ws cs : List ℕ) (u : U64 es) (v : U64 ws) (h : hold
     delta-holds e = rw outcome (go (deltaOf (lengthWidth wide) inserts removes items) refl (rw outcome at e))
       where
         after : (d : Delta) (o : Outcome State) → applyDelta (roomOf es ws cs) s d ≡ o → deltaOf (lengthWidth wide) inserts removes items ≡ some d
-            → laidOut r es ws cs o .result .answer ≡ Taken → Leaves (laidOut r es ws cs o)
+            → laidOut (r .delay) r es ws cs o .result .answer ≡ Taken → Leaves (laidOut (r .delay) r es ws cs o)
         after d (refused q) p i a = absurd (not-refused (sym a))
         after d (taken t) p i a =
             let (ok, same) = taken-accepted (roomOf es ws cs) s d t p in
             let carried = delta-fits 0 inserts removes d (omega arith) (delta-read (lengthWidth wide) inserts removes items d b i) (ok .short) in
-            rw same (laid-holds es ws cs (stateAfter d s) (well-after d s (carried .inserts) (ok .new) (x .well)) (room-after (roomOf es ws cs) d s (ok .fits)))
+            rw same (laid-holds (r .delay) (x .entries .delay) es ws cs (stateAfter d s) (well-after d s (carried .inserts) (ok .new) (x .well)) (room-after (roomOf es ws cs) d s (ok .fits)))
 
         go : (o : Option Delta) → deltaOf (lengthWidth wide) inserts removes items ≡ o
-            → laidOut r es ws cs (orRefuse Broken o >>= applyDelta (roomOf es ws cs) s) .result .answer ≡ Taken
-            → Leaves (laidOut r es ws cs (orRefuse Broken o >>= applyDelta (roomOf es ws cs) s))
+            → laidOut (r .delay) r es ws cs (orRefuse Broken o >>= applyDelta (roomOf es ws cs) s) .result .answer ≡ Taken
+            → Leaves (laidOut (r .delay) r es ws cs (orRefuse Broken o >>= applyDelta (roomOf es ws cs) s))
         go none i a = absurd (not-refused (sym a))
         go (some d) i a = after d (applyDelta (roomOf es ws cs) s d) refl i a
 
   -- ---- draining
-  module _ (delay round : ℕ) (out : List ℕ) where
+  module _ (round : ℕ) (out : List ℕ) where
     abbrev draining : DrainedOut
-    draining = drainCall delay r es ws cs round out
+    draining = drainCall r es ws cs round out
 
-    drain-outcome : draining ≡ drainedOut r ws out (fitting (length out) (taken (drainBytes delay round s))) (drained delay round s)
+    drain-outcome : draining ≡ drainedOut r ws out (fitting (length out) (taken (drainBytes (r .delay) round s))) (drained (r .delay) round s)
     unfolding drainCall onState
     drain-outcome = rw h
 
-    still : holds (recordOf (drained delay round s)) es (waitingTable (length ws) (drained delay round s)) cs ≡ true
+    still : holds (recordOf (r .delay) (drained (r .delay) round s)) es (waitingTable (length ws) (drained (r .delay) round s)) cs ≡ true
     unfolding drained entriesTable cellsTable stateOf recordOf
     still =
-        let q = holds-laid (drained delay round s) (length es) (length ws) (length cs) (well-drained delay round s (x .well))
-        (omega (arith, x .room, number-entries r es cs)) (omega (arith, x .cells .fits, bytes-same)) in
+        let q = holds-laid (drained (r .delay) round s) (length es) (length ws) (length cs) (well-drained (r .delay) round s (x .well))
+        (omega (arith, x .room, number-entries r es cs)) (omega (arith, x .cells .fits, bytes-same)) (r .delay) (x .entries .delay) in
         rw (x .same-entries, x .same-cells) at q
       where
         bytes-same : cellBytes (s .entries) ≡ r .«cell_bytes»
@@ -91,9 +92,9 @@ module _ (r : Nursery) (es ws cs : List ℕ) (u : U64 es) (v : U64 ws) (h : hold
 
     pub drain-holds : draining .result .answer ≡ Taken → holds (draining .result .nursery) es (draining .waiting) cs ≡ true
     unfolding drainedOut
-    drain-holds e = rw drain-outcome (go (fitting (length out) (taken (drainBytes delay round s))) (rw drain-outcome at e))
+    drain-holds e = rw drain-outcome (go (fitting (length out) (taken (drainBytes (r .delay) round s))) (rw drain-outcome at e))
       where
-        go : (o : Outcome (List ℕ)) → drainedOut r ws out o (drained delay round s) .result .answer ≡ Taken
-            → holds (drainedOut r ws out o (drained delay round s) .result .nursery) es (drainedOut r ws out o (drained delay round s) .waiting) cs ≡ true
+        go : (o : Outcome (List ℕ)) → drainedOut r ws out o (drained (r .delay) round s) .result .answer ≡ Taken
+            → holds (drainedOut r ws out o (drained (r .delay) round s) .result .nursery) es (drainedOut r ws out o (drained (r .delay) round s) .waiting) cs ≡ true
         go (refused q) a = absurd (not-refused (sym a))
         go (taken bs) a = still

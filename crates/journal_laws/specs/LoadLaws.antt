@@ -59,10 +59,11 @@ module _ (hash : List ℕ → List ℕ) (m : Room) where
       empty 0 0 bs (fresh, b) .1 .0
 
 -- so the record and the tables that a reading leaves hold a state
-pub read-holds : (hash : List ℕ → List ℕ) (bs es ws cs : List ℕ) → Bytes bs
-    → let c = readCall hash bs es ws cs in c .result .answer ≡ Taken → holds (c .result .nursery) (c .entries) (c .waiting) (c .cells) ≡ true
+pub read-holds : (hash : List ℕ → List ℕ) (delay : ℕ) (bs es ws cs : List ℕ) → Bytes bs
+    → let c = readCall hash delay bs es ws cs in c .result .answer ≡ Taken → holds (c .result .nursery) (c .entries) (c .waiting) (c .cells) ≡ true
 unfolding readOut laid roomOf
-read-holds hash bs es ws cs b t =
+read-holds hash delay bs es ws cs b t =
+    let r = read-taken hash delay bs es ws cs t in
     let l = journal-loaded hash (roomOf es ws cs) bs b in
-    subst (λ (c : ReadIn). holds (c .result .nursery) (c .entries) (c .waiting) (c .cells) ≡ true) (sym (read-taken hash bs es ws cs t .1))
-    (holds-laid (readJournal hash (roomOf es ws cs) bs .state) (length es) (length ws) (length cs) (l .well) (l .room .rows-fit) (l .room .bytes-fit))
+    subst (λ (c : ReadIn). holds (c .result .nursery) (c .entries) (c .waiting) (c .cells) ≡ true) (sym (r .1))
+    (holds-laid (readJournal hash (roomOf es ws cs) bs .state) (length es) (length ws) (length cs) (l .well) (l .room .rows-fit) (l .room .bytes-fit) delay (r .2))

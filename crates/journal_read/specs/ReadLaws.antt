@@ -13,26 +13,28 @@ use Rattle.base.specs.Logic.{sumOf}
 use Rattle.base.specs.Answers.{Outcome, refused, taken}
 use Rattle.base.specs.AnswerLaws.{not-refused}
 use Rattle.base.specs.declared.Refusal.{Refusal}
-use Rattle.base.specs.declared.Refusal.the-variants.{Damaged}
+use Rattle.base.specs.declared.Refusal.the-variants.{Damaged, BadSetting}
 use Rattle.base.specs.declared.Answer.{Answer}
 use Rattle.base.specs.declared.Answer.the-variants.{Taken, Refused}
 use Rattle.cell_nursery.specs.declared.Nursery.{Nursery}
 use Rattle.cell_nursery.specs.declared.Committed.{Committed}
 use Rattle.cell_nursery.specs.Entries.{State, empty, cellBytes}
 use Rattle.cell_nursery.specs.Delta.{applyDelta}
-use Rattle.cell_nursery.specs.Layout.{recordOf, entriesTable, waitingTable, cellsTable, roomOf, stateOf, holds}
+use Rattle.cell_nursery.specs.Layout.{recordOf, entriesTable, waitingTable, cellsTable, roomOf, stateOf, delayInRange, holds}
 use Rattle.cell_nursery.specs.Calls as nursery
 use Rattle.cell_nursery.specs.Calls.{Changed, laid, laidOut, newCall}
 use Rattle.cell_nursery.specs.HashLaws.{U64}
 use Rattle.slices.specs.ByteLaws.{U8, u8-drop, u8-part}
 use Rattle.cell_nursery.specs.LayoutLaws.{WellFormed, Held, held, length-entriesTable, length-waitingTable, length-cellsTable, stateOf-laid, holds-laid}
+use Rattle.cell_nursery.specs.SettingLaws.{new-taken}
 use Rattle.cell_nursery.specs.EntryLaws.{well-empty, well-after, InRoom, room-after}
 use Rattle.format.specs.Record.{Decoding, decode}
 use Rattle.format.specs.RefusalLaws.{Whole, Matches}
 use Rattle.format.specs.TakenLaws.{taken-lent}
+use Rattle.journal.specs.declared.JournalRead.{JournalRead}
 use Rattle.journal.specs.declared.JournalScan.{JournalScan}
 use Rattle.journal.specs.Journal.{recordsFrom, scan, damages, damaged, applyRecord, readJournal, effect, notRead, readOut, readCall}
-use Rattle.journal.specs.ReadLaws.{RecordRefused, record-refused, record-taken, recordsIn, records-taken, records-refused, read-damaged}
+use Rattle.journal.specs.ReadLaws.{RecordRefused, record-refused, record-taken, recordsIn, records-taken, records-refused, read-bad, read-damaged}
 use Rattle.journal_laws.specs.DeltaLaws.{delta-read, delta-fits, taken-accepted}
 use Rattle.journal_laws.specs.EndLaws.{Reached, reached-next, undamaged-matches}
 use Rattle.journal_read.specs.declared.Step.{Step}
@@ -46,6 +48,7 @@ module _ (hash : List ℕ → List ℕ) (s : List ℕ) (r₀ : Nursery) (es₀ w
     pub u64-es : U64 es
     pub u64-ws : U64 ws
     pub holding : holds r es ws cs ≡ true
+    pub same-delay : r .delay ≡ r₀ .delay
     pub size-es : length es ≡ length es₀
     pub size-ws : length ws ≡ length ws₀
     pub size-cs : length cs ≡ length cs₀
@@ -76,7 +79,7 @@ module _ (hash : List ℕ → List ℕ) (s : List ℕ) (r₀ : Nursery) (es₀ w
     unfolding readOn readOut laid
     closed a e =
         let h = is-held in
-        rw (← x .leads, e, ← x .size-es, ← x .size-ws, ← x .size-cs, h .same-record, h .same-entries, h .same-waiting, h .same-cells)
+        rw (← x .leads, e, ← x .same-delay, ← x .size-es, ← x .size-ws, ← x .size-cs, h .same-record, h .same-entries, h .same-waiting, h .same-cells)
 
     pub finished : place ≡ length s → effect (record { answer = Taken; nursery = r; applied = applied; place = length s; ended = Taken }) es ws cs ≡ readOn hash r₀ es₀ ws₀ cs₀ s
     unfolding recordsFrom
@@ -115,7 +118,7 @@ module _ (hash : List ℕ → List ℕ) (s : List ℕ) (r₀ : Nursery) (es₀ w
       unfolding recordCall recordOn laidOut laid
       stopped a ended = go (decode hash rest) refl on-rest
         where
-          as-before : (k : ℕ) (y : Refusal) → stepped q es' ws' cs' ≡ beside k (laidOut r es ws cs (refused y))
+          as-before : (k : ℕ) (y : Refusal) → stepped q es' ws' cs' ≡ beside k (laidOut (r .delay) r es ws cs (refused y))
               → recordsIn (applyRecord hash (roomOf es₀ ws₀ cs₀)) here applied place rest ≡ record { state = here; records = applied; place = place; ended = Refused y }
               → effect (record { answer = Taken; nursery = q .nursery; applied = applied; place = place; ended = q .answer }) es' ws' cs' ≡ readOn hash r₀ es₀ ws₀ cs₀ s
           as-before k y f l =
@@ -133,7 +136,7 @@ module _ (hash : List ℕ → List ℕ) (s : List ℕ) (r₀ : Nursery) (es₀ w
           ends y p = records-refused (applyRecord hash (roomOf es₀ ws₀ cs₀)) here applied place y rest some-left (record-refused hash (roomOf es₀ ws₀ cs₀) here rest y .1 p)
 
           after : (d : Decoding) (o : Outcome State) → decode hash rest ≡ taken d → applyDelta (roomOf es ws cs) here (d .delta) ≡ o
-              → stepped q es' ws' cs' ≡ beside (40 + d .stats .«payload_bytes») (laidOut r es ws cs o)
+              → stepped q es' ws' cs' ≡ beside (40 + d .stats .«payload_bytes») (laidOut (r .delay) r es ws cs o)
               → effect (record { answer = Taken; nursery = q .nursery; applied = applied; place = place; ended = q .answer }) es' ws' cs' ≡ readOn hash r₀ es₀ ws₀ cs₀ s
           after d (refused y) i p f = as-before (40 + d .stats .«payload_bytes») y f (ends y (inr (d, i, rw room-same at p)))
           after d (taken t) i p f = absurd (not-refused (sym (ap (λ (z : Stepped). z .result .answer) f) ∙ ended))
@@ -149,7 +152,7 @@ module _ (hash : List ℕ → List ℕ) (s : List ℕ) (r₀ : Nursery) (es₀ w
       advanced v w going = go (decode hash rest) refl on-rest
         where
           laid-out : (d : Decoding) (t : State) → decode hash rest ≡ taken d → applyDelta (roomOf es ws cs) here (d .delta) ≡ taken t
-              → q .nursery ≡ recordOf t → q .len ≡ 40 + d .stats .«payload_bytes» → es' ≡ entriesTable (length es) t → ws' ≡ waitingTable (length ws) t → cs' ≡ cellsTable (length cs) t → Applied (q .nursery) (q .len) es' ws' cs' applied place
+              → q .nursery ≡ recordOf (r .delay) t → q .len ≡ 40 + d .stats .«payload_bytes» → es' ≡ entriesTable (length es) t → ws' ≡ waitingTable (length ws) t → cs' ≡ cellsTable (length cs) t → Applied (q .nursery) (q .len) es' ws' cs' applied place
           laid-out d t i p a b f g h =
               let size = d .stats .«payload_bytes» in
               let inserts = d .stats .«insert_ops» in
@@ -160,7 +163,7 @@ module _ (hash : List ℕ → List ℕ) (s : List ℕ) (r₀ : Nursery) (es₀ w
               let read = delta-read 2 inserts removes (take (size - 16) (drop 56 rest)) (d .delta) (u8-part 56 (size - 16) rest bytes) (whole .items) in
               let well : WellFormed t = rw same (well-after (d .delta) here (delta-fits 0 inserts removes (d .delta) (omega arith) read (ok .short) .inserts) (ok .new) (is-held .well)) in
               let fit : InRoom (min (length es / 8) (length ws / 5)) (length cs) t = rw same (room-after (roomOf es ws cs) (d .delta) here (ok .fits)) in
-              let state-same : stateOf (q .nursery) es' ws' cs' ≡ t = rw (a, f, g, h) (stateOf-laid t (length es) (length ws) (length cs) well (fit .rows-fit) (fit .bytes-fit)) in
+              let state-same : stateOf (q .nursery) es' ws' cs' ≡ t = rw (a, f, g, h) (stateOf-laid t (length es) (length ws) (length cs) well (fit .rows-fit) (fit .bytes-fit) (r .delay)) in
               let turn = records-taken (applyRecord hash (roomOf es₀ ws₀ cs₀)) here applied place t size rest some-left (record-taken hash (roomOf es₀ ws₀ cs₀) here rest t size .1 (d, i, rw room-same at p, refl)) in
               let left = length-drop place s in
               record {
@@ -169,7 +172,8 @@ module _ (hash : List ℕ → List ℕ) (s : List ℕ) (r₀ : Nursery) (es₀ w
                     record {
                       u64-es = v;
                       u64-ws = w;
-                      holding = rw (a, f, g, h) (holds-laid t (length es) (length ws) (length cs) well (fit .rows-fit) (fit .bytes-fit));
+                      holding = rw (a, f, g, h) (holds-laid t (length es) (length ws) (length cs) well (fit .rows-fit) (fit .bytes-fit) (r .delay) (is-held .entries .delay));
+                      same-delay = ap (λ (n : Nursery). n .delay) a ∙ (unfold recordOf in (x .same-delay));
                       size-es = ap length f ∙ length-entriesTable t (length es) (length ws) (length cs) well (fit .rows-fit) (fit .bytes-fit) ∙ x .size-es;
                       size-ws = ap length g ∙ length-waitingTable t (length es) (length ws) (length cs) well (fit .rows-fit) (fit .bytes-fit) ∙ x .size-ws;
                       size-cs = ap length h ∙ length-cellsTable t (length es) (length ws) (length cs) well (fit .rows-fit) (fit .bytes-fit) ∙ x .size-cs;
@@ -181,7 +185,7 @@ module _ (hash : List ℕ → List ℕ) (s : List ℕ) (r₀ : Nursery) (es₀ w
               }
 
           after : (d : Decoding) (o : Outcome State) → decode hash rest ≡ taken d → applyDelta (roomOf es ws cs) here (d .delta) ≡ o
-              → stepped q es' ws' cs' ≡ beside (40 + d .stats .«payload_bytes») (laidOut r es ws cs o) → Applied (q .nursery) (q .len) es' ws' cs' applied place
+              → stepped q es' ws' cs' ≡ beside (40 + d .stats .«payload_bytes») (laidOut (r .delay) r es ws cs o) → Applied (q .nursery) (q .len) es' ws' cs' applied place
           after d (refused y) i p f = absurd (not-refused (sym going ∙ ap (λ (z : Stepped). z .result .answer) f))
           after d (taken t) i p f =
               laid-out d t i p (ap (λ (z : Stepped). z .result .nursery) f) (ap (λ (z : Stepped). z .result .len) f) (ap (λ (z : Stepped). z .entries) f)
@@ -192,7 +196,10 @@ module _ (hash : List ℕ → List ℕ) (s : List ℕ) (r₀ : Nursery) (es₀ w
           go (taken d) i f = after d (applyDelta (roomOf es ws cs) here (d .delta)) i refl f
 
 -- ---- an empty nursery, made in tables of any content
-module _ (es ws cs : List ℕ) (c : Committed) (es' ws' cs' : List ℕ) (e : nursery.effect c es' ws' cs' ≡ newCall es ws cs) where
+module _ (delay : ℕ) (inRange : delayInRange delay ≡ true) (es ws cs : List ℕ) (c : Committed) (es' ws' cs' : List ℕ) (e : nursery.effect c es' ws' cs' ≡ newCall delay es ws cs) where
+  is-laid : nursery.effect c es' ws' cs' ≡ laid delay es ws cs empty
+  is-laid = e ∙ new-taken delay es ws cs inRange
+
   no-rows : length (empty .entries) ≤ min (length es / 8) (length ws / 5)
   unfolding empty
   no-rows = omega arith
@@ -201,34 +208,34 @@ module _ (es ws cs : List ℕ) (c : Committed) (es' ws' cs' : List ℕ) (e : nur
   unfolding empty cellBytes sumOf
   no-bytes = omega arith
 
-  is-record : c .nursery ≡ recordOf empty
-  unfolding newCall laid
-  is-record = ap (λ (z : Changed). z .result .nursery) e
+  is-record : c .nursery ≡ recordOf delay empty
+  unfolding laid
+  is-record = ap (λ (z : Changed). z .result .nursery) is-laid
 
   is-entries : es' ≡ entriesTable (length es) empty
-  unfolding newCall laid
-  is-entries = ap (λ (z : Changed). z .entries) e
+  unfolding laid
+  is-entries = ap (λ (z : Changed). z .entries) is-laid
 
   is-waiting : ws' ≡ waitingTable (length ws) empty
-  unfolding newCall laid
-  is-waiting = ap (λ (z : Changed). z .waiting) e
+  unfolding laid
+  is-waiting = ap (λ (z : Changed). z .waiting) is-laid
 
   is-cells : cs' ≡ cellsTable (length cs) empty
-  unfolding newCall laid
-  is-cells = ap (λ (z : Changed). z .cells) e
+  unfolding laid
+  is-cells = ap (λ (z : Changed). z .cells) is-laid
 
   pub fresh-holds : holds (c .nursery) es' ws' cs' ≡ true
-  fresh-holds = rw (is-record, is-entries, is-waiting, is-cells) (holds-laid empty (length es) (length ws) (length cs) well-empty no-rows no-bytes)
+  fresh-holds = rw (is-record, is-entries, is-waiting, is-cells) (holds-laid empty (length es) (length ws) (length cs) well-empty no-rows no-bytes delay inRange)
 
-  pub fresh-read : (hash : List ℕ → List ℕ) (s : List ℕ) → readOn hash (c .nursery) es' ws' cs' s ≡ readOut es ws cs (readJournal hash (roomOf es ws cs) s)
-  unfolding readOn readOut readJournal laid roomOf
+  pub fresh-read : (hash : List ℕ → List ℕ) (s : List ℕ) → readOn hash (c .nursery) es' ws' cs' s ≡ readOut delay es ws cs (readJournal hash (roomOf es ws cs) s)
+  unfolding readOn readOut readJournal laid roomOf recordOf
   fresh-read hash s =
       rw (
         is-record,
         is-entries,
         is-waiting,
         is-cells,
-        stateOf-laid empty (length es) (length ws) (length cs) well-empty no-rows no-bytes,
+        stateOf-laid empty (length es) (length ws) (length cs) well-empty no-rows no-bytes delay,
         length-entriesTable empty (length es) (length ws) (length cs) well-empty no-rows no-bytes,
         length-waitingTable empty (length es) (length ws) (length cs) well-empty no-rows no-bytes,
         length-cellsTable empty (length es) (length ws) (length cs) well-empty no-rows no-bytes,
@@ -240,7 +247,16 @@ module _ (hash : List ℕ → List ℕ) (s : List ℕ) where
   unfolding damaged
   pass-says x b e f = rw (← e) (sym f)
 
-  pub not-read : (es ws cs : List ℕ) → damaged hash s ≡ true
-      → effect (record { answer = Refused Damaged; nursery = record { entries = 0; waiting = 0; «cell_bytes» = 0 }; applied = 0; place = 0; ended = Taken }) es ws cs ≡ readCall hash s es ws cs
-  unfolding notRead recordOf empty cellBytes sumOf
-  not-read es ws cs e = sym (read-damaged hash s es ws cs e)
+-- a refusal of the reading
+abbrev pub refusedWith : Refusal → JournalRead
+refusedWith why =
+    record { answer = Refused why; nursery = recordOf 0 empty; applied = 0; place = 0; ended = Taken }
+
+module _ (hash : List ℕ → List ℕ) (delay : ℕ) (s es ws cs : List ℕ) where
+  pub not-set : delayInRange delay ≡ false → effect (refusedWith BadSetting) es ws cs ≡ readCall hash delay s es ws cs
+  unfolding notRead
+  not-set o = sym (read-bad hash delay s es ws cs o)
+
+  pub not-read : delayInRange delay ≡ true → damaged hash s ≡ true → effect (refusedWith Damaged) es ws cs ≡ readCall hash delay s es ws cs
+  unfolding notRead
+  not-read o e = sym (read-damaged hash delay s es ws cs o e)

@@ -28,9 +28,9 @@ beside n c =
     stepped (record { answer = c .result .answer; nursery = c .result .nursery; len = n }) (c .entries) (c .waiting) (c .cells)
 
 unfoldable pub recordOn : Nursery → List ℕ → List ℕ → List ℕ → Outcome Decoding → Stepped
-recordOn r es ws cs (refused x) = beside 0 (laidOut r es ws cs (refused x))
+recordOn r es ws cs (refused x) = beside 0 (laidOut (r .delay) r es ws cs (refused x))
 recordOn r es ws cs (taken d) =
-    beside (40 + d .stats .«payload_bytes») (laidOut r es ws cs (applyDelta (roomOf es ws cs) (stateOf r es ws cs) (d .delta)))
+    beside (40 + d .stats .«payload_bytes») (laidOut (r .delay) r es ws cs (applyDelta (roomOf es ws cs) (stateOf r es ws cs) (d .delta)))
 
 -- the record that bytes start with, on the state that the tables hold
 unfoldable pub recordCall : (List ℕ → List ℕ) → Nursery → List ℕ → List ℕ → List ℕ → List ℕ → Stepped
@@ -38,4 +38,4 @@ recordCall hash r es ws cs bs = recordOn r es ws cs (decode hash bs)
 
 -- a journal's records read on from the state that the tables hold
 unfoldable pub readOn : (List ℕ → List ℕ) → Nursery → List ℕ → List ℕ → List ℕ → List ℕ → ReadIn
-readOn hash r es ws cs bs = readOut es ws cs (recordsFrom (length bs) (applyRecord hash (roomOf es ws cs)) (stateOf r es ws cs) 0 0 bs)
+readOn hash r es ws cs bs = readOut (r .delay) es ws cs (recordsFrom (length bs) (applyRecord hash (roomOf es ws cs)) (stateOf r es ws cs) 0 0 bs)

@@ -5,6 +5,8 @@
 use base::Answer;
 use base::Refusal;
 use cell_nursery::Nursery;
+use cell_nursery::delay_in_range;
+use cell_nursery::no_nursery;
 use journal::JournalRead;
 use journal_scan::damages;
 use journal_scan::scan;
@@ -17,6 +19,7 @@ ghost use Rattle.cell_nursery.specs.Layout.{holds};
 ghost use Rattle.format.specs.RefusalLaws.{Whole, Matches};
 ghost use Rattle.journal.specs.Journal.{damaged, effect, readCall};
 ghost use Rattle.journal_read.specs.Reading.{stepped, recordCall, readOn};
+ghost use Rattle.journal_read.specs.ReadLaws.{refusedWith};
 
 // What one record did: len is how many bytes it has, 0 where it is none.
 struct Step {
@@ -97,25 +100,37 @@ fn read_records(r: Nursery, es: &mut [u64], ws: &mut [u64], cs: &mut [u8], s: &[
     }
 }
 
-// Reads the journal s into an empty nursery, in tables of any content.
-pub fn read_journal(s: &[u8], es: &mut [u64], ws: &mut [u64], cs: &mut [u8]) -> JournalRead
-    ensures { λ j. ⌜ effect j (now (es .exit)) (now (ws .exit)) (now (cs .exit)) ≡ readCall hash (now (s .entry)) (now (es .entry)) (now (ws .entry)) (now (cs .entry)) ⌝ }
+// A refusal of the reading: zeros beside it.
+fn refused(why: Refusal) -> JournalRead
+    ensures { λ j. ⌜ j ≡ refusedWith why ⌝ }
 {
+    JournalRead {
+        answer: Answer::Refused(why),
+        nursery: no_nursery(),
+        applied: 0,
+        place: 0,
+        ended: Answer::Taken,
+    }
+}
+
+// Reads the journal s into an empty nursery with a delay, in tables of any content. The delay is judged before a record is.
+pub fn read_journal(
+    s: &[u8],
+    delay: u64,
+    es: &mut [u64],
+    ws: &mut [u64],
+    cs: &mut [u8],
+) -> JournalRead
+    ensures { λ j. ⌜ effect j (now (es .exit)) (now (ws .exit)) (now (cs .exit)) ≡ readCall hash delay (now (s .entry)) (now (es .entry)) (now (ws .entry)) (now (cs .entry)) ⌝ }
+{
+    if !delay_in_range(delay) {
+        return refused(Refusal::BadSetting);
+    }
     let pass = scan(s);
     let ended = pass.ended;
     if damages(ended) {
-        return JournalRead {
-            answer: Answer::Refused(Refusal::Damaged),
-            nursery: Nursery {
-                entries: 0,
-                waiting: 0,
-                cell_bytes: 0,
-            },
-            applied: 0,
-            place: 0,
-            ended: Answer::Taken,
-        };
+        return refused(Refusal::Damaged);
     }
-    let fresh = nursery_table::new(es, ws, cs);
+    let fresh = nursery_table::new(delay, es, ws, cs);
     read_records(fresh.nursery, es, ws, cs, s)
 }

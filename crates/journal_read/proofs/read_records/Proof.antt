@@ -39,6 +39,7 @@ loop-holds c =
       u64-es = λ i. c .before .before .before .slice-known .given i .fits;
       u64-ws = λ i. c .before .before .slice-known2 .given i .fits;
       holding = c .before .before .before .before .pre .0;
+      same-delay = refl;
       size-es = refl;
       size-ws = refl;
       size-cs = refl;
