@@ -1,6 +1,6 @@
 -- The claims of two batches in a row, shown through the calls.
 -- Assumes nothing.
-use mathlib.Core.Path.{_≡_, refl, sym, ap, _∙_}
+use mathlib.Core.Path.{_≡_, refl, sym, ap, ap₂, _∙_}
 use mathlib.Core.Bool.{true}
 use mathlib.Core.Option.{some}
 use mathlib.Core.List.{List, map}
@@ -10,6 +10,7 @@ use lib.ListN.{length}
 use Rattle.base.specs.Answers.{taken}
 use Rattle.base.specs.declared.Answer.the-variants.{Taken}
 use Rattle.rows.specs.TableLaws.{length-rowsOf}
+use Rattle.counters.specs.declared.ShrinkSettings.{ShrinkSettings}
 use Rattle.counters.specs.declared.Counters.{Counters}
 use Rattle.counters.specs.declared.CounterMaintenance.{CounterMaintenance}
 use Rattle.counters.specs.declared.CounterTransition.{CounterTransition}
@@ -22,7 +23,7 @@ use Rattle.counters.specs.Layout.{ordered, countRow, roomOf, withMaintenance, s
 use Rattle.counters.specs.LayoutLaws.{held}
 use Rattle.counters.specs.WordLaws.{words-batch}
 use Rattle.counters.specs.Calls.{Changed, effect, onState, laid, laidOut, batchCall}
-use Rattle.counters.specs.CallLaws.{batch-held, batch-accepted, batch-length, batch-taken-holds}
+use Rattle.counters.specs.CallLaws.{batch-held, batch-accepted, batch-length, batch-settings, batch-taken-holds}
 use Rattle.snapshot.specs.Write.{snapshotBytes}
 use Rattle.snapshot.specs.Calls.{serializeCall}
 use Rattle.node_box.specs.Box.{Box, batch, withCounters, step, snapshotOf}
@@ -45,7 +46,7 @@ module _ (c : Counters) (t : List ℕ) (h : holds c t ≡ true) where
   in-bound = omega (arith, held c t h .bounded, length-rowsOf countRow (c .stored) t)
 
   -- laid out, it is the record and the table
-  laid-again : laid (length t) (stateOf c t) ≡ effect (record { answer = Taken; counters = c }) t
+  laid-again : laid (c .settings) (length t) (stateOf c t) ≡ effect (record { answer = Taken; counters = c }) t
   unfolding laid
   laid-again = rw (held c t h .same-record, held c t h .same-table)
 
@@ -62,7 +63,7 @@ snapshot-maintenance b m = refl
 record Applies (c : Counters) (t ws : List ℕ) (ts : List CounterTransition) : Type 0 where
   holding : holds c t ≡ true
   passes : Passes (roomOf t) (stateOf c t) (kept ts)
-  leaves : batchCall c t ws ≡ laid (length t) (stateAfter (kept ts) (stateOf c t))
+  leaves : batchCall c t ws ≡ laid (c .settings) (length t) (stateAfter (kept ts) (stateOf c t))
   after : stateOf (batchCall c t ws .result .counters) (batchCall c t ws .table) ≡ stateAfter (kept ts) (stateOf c t)
 
 applies : (c : Counters) (t ws : List ℕ) (ts : List CounterTransition) → batchOf ws ≡ some ts → batchCall c t ws .result .answer ≡ Taken → Applies c t ws ts
@@ -73,7 +74,7 @@ applies c t ws ts w e =
     let done : applyBatch (roomOf t) (stateOf c t) ts ≡ taken s′ = rw same at (a .applied) in
     let (ok, many) = bound-taken (applyKept (roomOf t) (stateOf c t) (kept ts)) s′ .0 done in
     let (p, left) = taken-passes (roomOf t) (stateOf c t) (kept ts) s′ ok in
-    record { holding = a .holding; passes = p; leaves = batch-held c t ws ts (a .holding) w ∙ ap (laidOut c t) (done ∙ ap taken left); after = m ∙ left }
+    record { holding = a .holding; passes = p; leaves = batch-held c t ws ts (a .holding) w ∙ ap (laidOut (c .settings) c t) (done ∙ ap taken left); after = m ∙ left }
 
 -- ---- a second batch on what the first left
 module _ (c : Counters) (t ws vs : List ℕ) where
@@ -90,8 +91,10 @@ module _ (c : Counters) (t ws vs : List ℕ) where
     second-passes : batchCall c₁ t₁ vs .result .answer ≡ Taken → Passes (roomOf t) (stateAfter (kept ts) s) (kept us)
     second-passes e = rw (batch-length c t ws, a .after) at (applies c₁ t₁ vs us v e .passes)
 
-    second-leaves : batchCall c₁ t₁ vs .result .answer ≡ Taken → batchCall c₁ t₁ vs ≡ laid (length t) (stateAfter (kept us) (stateAfter (kept ts) s))
-    second-leaves e = rw (batch-length c t ws, a .after) at (applies c₁ t₁ vs us v e .leaves)
+    second-leaves : batchCall c₁ t₁ vs .result .answer ≡ Taken → batchCall c₁ t₁ vs ≡ laid (c .settings) (length t) (stateAfter (kept us) (stateAfter (kept ts) s))
+    second-leaves e =
+        rw (batch-length c t ws, a .after) at (applies c₁ t₁ vs us v e .leaves)
+        ∙ ap (λ (g : ShrinkSettings). laid g (length t) (stateAfter (kept us) (stateAfter (kept ts) s))) (batch-settings c t ws)
 
     module _ (inverse : Inverse ts us) where
       abbrev grown : CounterMaintenance
@@ -118,11 +121,12 @@ module _ (c : Counters) (t ws vs : List ℕ) where
           bounded = in-bound left t (holds-maintenance c t grown ∙ a .holding)
 
       inverse-leaves : batchCall c t ws .result .answer ≡ Taken → batchCall c₁ t₁ vs ≡ effect (record { answer = Taken; counters = left }) t
-      unfolding laidOut
+      unfolding laidOut withMaintenance
       inverse-leaves e =
           batch-held c₁ t₁ vs us (batch-taken-holds c t ws e) v
           ∙ rw (batch-length c t ws, a .after, inverse-applied)
-          (ap (λ (n : ℕ). laid n (stateOf left t)) (batch-length c t ws) ∙ laid-again left t (holds-maintenance c t grown ∙ a .holding))
+          (ap₂ (λ (g : ShrinkSettings) (n : ℕ). laid g n (stateOf left t)) (batch-settings c t ws) (batch-length c t ws)
+          ∙ laid-again left t (holds-maintenance c t grown ∙ a .holding))
 
 -- ---- the two laws, of the call on a record and a table
 -- an inverse leaves the table, and the record but for maintenance
@@ -146,7 +150,7 @@ call-either-order c t ws vs p q r u =
     let same =
     states-either (roomOf t) (stateOf c t) (kept ts) (kept us) (in-order c t (f .holding)) (f .passes)
     (second-passes c t ws vs ts us f (y .words) q) (g .passes) (second-passes c t vs ws us ts g (x .words) u) in
-    second-leaves c t ws vs ts us f (y .words) q ∙ ap (laid (length t)) same ∙ sym (second-leaves c t vs ws us ts g (x .words) u)
+    second-leaves c t ws vs ts us f (y .words) q ∙ ap (laid (c .settings) (length t)) same ∙ sym (second-leaves c t vs ws us ts g (x .words) u)
 
 -- ---- of a box
 module _ (b : Box) (ws vs : List ℕ) where

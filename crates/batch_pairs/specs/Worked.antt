@@ -8,14 +8,14 @@ use lib.ListN.{replicate}
 use Rattle.base.specs.Logic.{zeros, max64}
 use Rattle.base.specs.Answers.{answerNumber}
 use Rattle.counters.specs.Steps.{transition}
-use Rattle.node_box.specs.Box.{Box, batch, batchRecords, made, withCounters, step, snapshotOf}
+use Rattle.node_box.specs.Box.{standardSettings, Box, batch, batchRecords, made, withCounters, step, snapshotOf}
 use Rattle.node_box.specs.Open.{evaluation}
 use Rattle.batch_pairs.specs.Pairs.{RolledBack}
 use Rattle.batch_pairs.specs.PairLaws.{pairs}
 
 -- a fresh box at next index 4 with room for some counts, and the number that answers a batch
 abbrev four : ℕ → Box
-four room = made 4 (zeros (room + room)) [] [] []
+four room = made standardSettings 4 (zeros (room + room)) [] [] []
 
 abbrev answer : Box → List ℕ → ℕ
 answer b ws = answerNumber (step b (batch ws) .0)
@@ -31,7 +31,7 @@ both b ws vs = batched (batched b ws) vs
 abbrev alive : ℕ → Box
 alive n =
     let c = four 2 .counters in
-    withCounters (four 2) (record { «next_idx» = c .«next_idx»; «live_cells» = n; stored = c .stored; maintenance = c .maintenance }) (four 2 .counts)
+    withCounters (four 2) (record { «next_idx» = c .«next_idx»; «live_cells» = n; stored = c .stored; maintenance = c .maintenance; settings = c .settings }) (four 2 .counts)
 
 -- two births, and a transition that is dropped at an index past next; an inverse in another order, with one that is dropped
 abbrev first : List ℕ

@@ -22,7 +22,6 @@ use Rattle.counters.specs.Calls as counters
 use Rattle.cell_nursery.specs.declared.Nursery.{Nursery}
 use Rattle.cell_nursery.specs.declared.Committed.{Committed}
 use Rattle.cell_nursery.specs.declared.Drained.{Drained}
-use Rattle.cell_nursery.specs.Drain.{promotionDelay}
 use Rattle.cell_nursery.specs.Calls as nursery
 use Rattle.delta_items.specs.Walk.{insertsLen, itemsFit, deltaIn, removesAt}
 use Rattle.delta_items.specs.WalkLaws.{delta-whole, delta-none, length-inserts, length-hashes, inserts-cells, fit-inserts, fit-removes, removes-at, removes-past}
@@ -215,12 +214,12 @@ module _ (c : Counters) (n : Nursery) (t es ws cs : List ℕ) where
         (ap (λ (z : nursery.Changed). effect (record { good = true; answer = z .result .answer; counters = c; nursery = z .result .nursery }) t (z .entries) (z .waiting) (z .cells)) (q ∙ ap (λ (l : List ℕ). nursery.deltaCall n es ws cs false x y l) (behind-all body)))
 
     -- the output has room for a drain's
-    pub drain-ran : (round : ℕ) (a : Drained) (o w : List ℕ) → nursery.drainEffect a o w ≡ nursery.drainCall promotionDelay n es ws cs round (zeros 27136)
+    pub drain-ran : (round : ℕ) (a : Drained) (o w : List ℕ) → nursery.drainEffect a o w ≡ nursery.drainCall n es ws cs round (zeros 27136)
         → length body ≡ 4 → round ≡ unle (take 4 body)
         → effect (record { good = true; answer = a .answer; counters = c; nursery = a .nursery }) t es w cs ≡ ran (boxOf c t n es ws cs) (drainItem body)
     unfolding drainItem drainRoom ran step withNursery
     drain-ran round a o w q h e =
         let f : round ≡ unle body = e ∙ ap (λ (l : List ℕ). unle l) (take-all 4 body (omega arith)) in
-        let r = q ∙ ap (λ (k : ℕ). nursery.drainCall promotionDelay n es ws cs k (zeros 27136)) f in
+        let r = q ∙ ap (λ (k : ℕ). nursery.drainCall n es ws cs k (zeros 27136)) f in
         rw (eq-eqb (length body) 4 h)
         (ap (λ (z : nursery.DrainedOut). effect (record { good = true; answer = z .result .answer; counters = c; nursery = z .result .nursery }) t es (z .waiting) cs) r)

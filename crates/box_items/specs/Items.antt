@@ -17,7 +17,7 @@ use Rattle.counters.specs.declared.Counters.{Counters}
 use Rattle.cell_nursery.specs.declared.Nursery.{Nursery}
 use Rattle.format.specs.Payload.{payloadOf}
 use Rattle.format.specs.Record.{statsOf, leftover}
-use Rattle.node_box.specs.Box.{Box, Call, allocate, batch, delta, drain, made, step}
+use Rattle.node_box.specs.Box.{standardSettings, Box, Call, allocate, batch, delta, drain, made, step}
 use Rattle.box_lines.specs.declared.Line.{Line}
 use Rattle.box_lines.specs.Lines.{kindOf, bodyLen, lineText, heading}
 use Rattle.box_items.specs.declared.Next.{Next}
@@ -113,7 +113,7 @@ turn b place bs =
 
 -- room for 1,024 counts, 256 entries and 16,384 cell bytes; fresh at 0
 unfoldable pub runBox : Box
-runBox = made 0 (zeros (2 * 1024)) (zeros (8 * 256)) (zeros (5 * 256)) (zeros 16384)
+runBox = made standardSettings 0 (zeros (2 * 1024)) (zeros (8 * 256)) (zeros (5 * 256)) (zeros 16384)
 
 -- the lines for bytes from an item's place on: one for each item, up to the first bad one.
 -- A good item has six bytes at least, so that `fuel` as large as the input is enough

@@ -6,13 +6,13 @@ use mathlib.Core.List.{List, [], _∷_, _++_}
 use lib.ListN.{length}
 use Rattle.base.specs.Logic.{zeros}
 use Rattle.base.specs.Bytes.{le16, le32, le64}
-use Rattle.node_box.specs.Box.{made}
+use Rattle.node_box.specs.Box.{standardSettings, made}
 use Rattle.box_lines.specs.declared.Line.{Line}
 use Rattle.box_items.specs.Items.{linesFrom}
 use Rattle.box_items.specs.Open.{evaluation}
 
 abbrev run : List ℕ → List Line
-run bs = linesFrom (length bs) (made 0 (zeros 4) (zeros 16) (zeros 10) (zeros 2)) 0 bs
+run bs = linesFrom (length bs) (made standardSettings 0 (zeros 4) (zeros 16) (zeros 10) (zeros 2)) 0 bs
 
 abbrev item : ℕ → List ℕ → List ℕ
 item kind body = le32 (length body) ++ le16 kind ++ body

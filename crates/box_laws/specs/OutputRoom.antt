@@ -18,9 +18,10 @@ use Rattle.base.specs.declared.Answer.the-variants.{Taken, Refused}
 use Rattle.base.specs.declared.Refusal.the-variants.{OutputFull}
 use Rattle.base.specs.MaybeLaws.{Gives, gives}
 use Rattle.base.specs.SpellLaws.{Bytes}
-use Rattle.node_box.specs.Box.{Box, Call, allocate, batch, delta, made, step, run}
+use Rattle.node_box.specs.Box.{standardSettings, Box, Call, allocate, batch, delta, made, step, run}
 use Rattle.node_box.specs.Demand.{start, end}
-use Rattle.demand3.specs.Holding.{Sizes, Holding, holding-step, holding}
+use Rattle.node_box.specs.Order.{setting-lines}
+use Rattle.demand3.specs.Holding.{Fixed, Holding, holding-step, holding}
 use Rattle.demand3.specs.Refusals.{numbersOf, refusals}
 use Rattle.demand3.specs.DrainRoom.{drain-fits}
 use Rattle.box_lines.specs.declared.Line.{Line}
@@ -28,9 +29,9 @@ use Rattle.box_lines.specs.Lines.{kindOf, bodyLen}
 use Rattle.box_items.specs.Items.{drainRoom, itemCall, ran, lineOf, turn, runBox, linesFrom, lines}
 use Rattle.box_laws.specs.ItemCalls.{ItemCall, allocates, batches, changes, drains, Fit, item-fits}
 
--- a run's tables
-abbrev runSizes : Sizes
-runSizes = record { counts = 2 * 1024; entries = 8 * 256; waiting = 5 * 256; cells = 16384 }
+-- a run's settings and tables
+abbrev runFixed : Fixed
+runFixed = record { settings = standardSettings; counts = 2 * 1024; entries = 8 * 256; waiting = 5 * 256; cells = 16384 }
 
 -- the number of an output that is too short
 abbrev pub tooShort : ℕ
@@ -48,7 +49,7 @@ not-among n ns absent e = go (eqb n tooShort) refl
     go true t = absurd (true≢false (sym e ∙ ap (λ (m : ℕ). elem m ns) (eqb-true n tooShort t) ∙ absent))
     go false t = refl
 
-module _ {b : Box} (h : Holding runSizes b) where
+module _ {b : Box} (h : Holding runFixed b) where
   other-call : (x : Call) → elem tooShort (numbersOf x) ≡ false → Roomy (step b x .0) ≡ true
   other-call x absent = go (step b x .0) refl
     where
@@ -67,14 +68,14 @@ module _ {b : Box} (h : Holding runSizes b) where
 abbrev pub roomy : Line → Bool
 roomy l = not (eqb (l .answer) tooShort)
 
-lines-room : (fuel : ℕ) (b : Box) (place : ℕ) (bs : List ℕ) → Bytes bs → Holding runSizes b → all roomy (linesFrom fuel b place bs) ≡ true
+lines-room : (fuel : ℕ) (b : Box) (place : ℕ) (bs : List ℕ) → Bytes bs → Holding runFixed b → all roomy (linesFrom fuel b place bs) ≡ true
 unfolding linesFrom turn all ran
 lines-room zero b place bs c h = refl
 lines-room (suc fuel) b place [] c h = refl
 lines-room (suc fuel) b place (x ∷ xs) c h =
     go (λ y ys d k. lines-room fuel (step b y .1) (suc place) ys d k) (x ∷ xs) c (itemCall (x ∷ xs)) (item-fits (x ∷ xs) c)
   where
-    go : ((y : Call) (ys : List ℕ) → Bytes ys → Holding runSizes (step b y .1) → all roomy (linesFrom fuel (step b y .1) (suc place) ys) ≡ true)
+    go : ((y : Call) (ys : List ℕ) → Bytes ys → Holding runFixed (step b y .1) → all roomy (linesFrom fuel (step b y .1) (suc place) ys) ≡ true)
         → (bs : List ℕ) → Bytes bs → (o : Option Call) → Gives Fit o
         → all roomy (lineOf place (kindOf bs) (ran b o .answer) (ran b o .box .counters) ∷ pick (ran b o .good) (linesFrom fuel (ran b o .box) (suc place) (drop (6 + bodyLen bs) bs)) []) ≡ true
     go after bs c none g = refl
@@ -83,13 +84,13 @@ lines-room (suc fuel) b place (x ∷ xs) c h =
         and-both _ _ (item-call h y (p .1)) (after y (drop n bs) (all-drop (λ x. ltb x 256) n bs c) (holding-step y (p .0) h))
 
 -- a box as it is made
-made-holds : (k e w c : ℕ) → Holding (record { counts = k; entries = e; waiting = w; cells = c }) (made 0 (zeros k) (zeros e) (zeros w) (zeros c))
+made-holds : (k e w c : ℕ) → Holding (record { settings = standardSettings; counts = k; entries = e; waiting = w; cells = c }) (made standardSettings 0 (zeros k) (zeros e) (zeros w) (zeros c))
 unfolding end start run all
 made-holds k e w c =
     rw (length-replicate {A = ℕ} k 0, length-replicate {A = ℕ} e 0, length-replicate {A = ℕ} w 0, length-replicate {A = ℕ} c 0) at
-    (holding (record { next = 0; counts = zeros k; entries = zeros e; waiting = zeros w; cells = zeros c; calls = [] }) (record { next = omega arith; calls = refl }))
+    (holding (record { settings = standardSettings; next = 0; counts = zeros k; entries = zeros e; waiting = zeros w; cells = zeros c; calls = [] }) (record { settings = setting-lines .standard-ranged; next = omega arith; calls = refl }))
 
-run-holds : Holding runSizes runBox
+run-holds : Holding runFixed runBox
 unfolding runBox
 run-holds = made-holds (2 * 1024) (8 * 256) (5 * 256) 16384
 

@@ -9,12 +9,13 @@ use native.Mathlib.Omega.{arith}
 use lib.ListN.{length, take, drop, length-drop, drop-of-length-le}
 use lib.Seq.{take-all, drop-drop}
 use Rattle.base.specs.Logic.{pick, flat, zeros}
-use Rattle.counters.specs.declared.Counters.{Counters}
+use Rattle.counters.specs.declared.Applied.{Applied}
 use Rattle.counters.specs.Maintenance.{standard}
 use Rattle.counters.specs.Calls as counters
+use Rattle.cell_nursery.specs.Drain.{promotionDelay}
 use Rattle.cell_nursery.specs.declared.Committed.{Committed}
 use Rattle.cell_nursery.specs.Calls as nursery
-use Rattle.node_box.specs.Box.{Box, made}
+use Rattle.node_box.specs.Box.{standardSettings, Box, made}
 use Rattle.box_lines.specs.declared.Line.{Line}
 use Rattle.box_lines.specs.Lines.{bodyLen, lineText, heading, Output, nothing, append}
 use Rattle.box_lines.specs.LineLaws.{append-none, append-join, append-then}
@@ -84,14 +85,14 @@ module _ (b : Box) (place at : ℕ) (input : List ℕ) (o p r : Output) (n : Nex
         (ap (λ (c : Bool). append (flat lineText (pick c rest [])) p) (sym good) ∙ step)
 
 -- a fresh box, by what the two calls gave
-pub fresh-made : (c : Counters) (k : Committed) (t es ws cs u fs xs ds : List ℕ) → counters.newEffect c u ≡ counters.newCall (standard .base) (record { 0 = 0 }) t
-    → nursery.effect k fs xs ds ≡ nursery.newCall es ws cs → boxOf c u (k .nursery) fs xs ds ≡ made 0 t es ws cs
-unfolding made
-fresh-made c k t es ws cs u fs xs ds e f =
+pub fresh-made : (a : Applied) (k : Committed) (t es ws cs u fs xs ds : List ℕ) → counters.effect a u ≡ counters.newCall standard (record { 0 = 0 }) t
+    → nursery.effect k fs xs ds ≡ nursery.newCall promotionDelay es ws cs → boxOf (a .counters) u (k .nursery) fs xs ds ≡ made standardSettings 0 t es ws cs
+unfolding made standardSettings
+fresh-made a k t es ws cs u fs xs ds e f =
     ap₂ (λ (x : counters.Changed) (y : nursery.Changed). boxOf (x .result .counters) (x .table) (y .result .nursery) (y .entries) (y .waiting) (y .cells)) e f
 
 -- a run from its start: the tables that it makes have the sizes of `runBox`
-pub text-start : (input : List ℕ) (b : Box) (out : List ℕ) (p r : Output) → b ≡ made 0 (zeros (2 * 1024)) (zeros (8 * 256)) (zeros (5 * 256)) (zeros 16384)
+pub text-start : (input : List ℕ) (b : Box) (out : List ℕ) (p r : Output) → b ≡ made standardSettings 0 (zeros (2 * 1024)) (zeros (8 * 256)) (zeros (5 * 256)) (zeros 16384)
     → p ≡ append heading (nothing out) → r ≡ append (textFrom b 0 input) p → r ≡ append (text input) (nothing out)
 unfolding text lines runBox
 text-start input b out p r e f g =

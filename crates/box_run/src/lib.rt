@@ -7,9 +7,10 @@ use box_lines::put_line;
 use cell_nursery::Nursery;
 use counters::Counters;
 use counters::NextIdx;
+use counters::ShrinkSettings;
 ghost use mathlib.Core.Path.{_≡_};
 ghost use Rattle.base.specs.Logic.{flat};
-ghost use Rattle.node_box.specs.Box.{made};
+ghost use Rattle.node_box.specs.Box.{standardSettings, made};
 ghost use Rattle.box_lines.specs.Lines.{output, nothing, append, lineText};
 ghost use Rattle.box_items.specs.Items.{boxOf, text};
 ghost use Rattle.box_items.specs.RunLaws.{linesOf};
@@ -20,12 +21,27 @@ pub struct Records {
     pub nursery: Nursery,
 }
 
-// A fresh box at 0, in tables of any content.
+// Document 01's settings.
+const DELAY: u64 = 100;
+
+const SHRINK_BASE: u64 = 131_072;
+
+const SHRINK_MAX: u64 = 2_097_152;
+
+const GOOD_SAVE: u64 = 1_048_576;
+
+// A fresh box at 0 with document 01's settings, in tables of any content.
 pub fn fresh(t: &mut [u64], es: &mut [u64], ws: &mut [u64], cs: &mut [u8]) -> Records
-    ensures { λ r. ⌜ boxOf (r .counters) (now (t .exit)) (r .nursery) (now (es .exit)) (now (ws .exit)) (now (cs .exit)) ≡ made 0 (now (t .entry)) (now (es .entry)) (now (ws .entry)) (now (cs .entry)) ⌝ }
+    ensures { λ r. ⌜ boxOf (r .counters) (now (t .exit)) (r .nursery) (now (es .exit)) (now (ws .exit)) (now (cs .exit)) ≡ made standardSettings 0 (now (t .entry)) (now (es .entry)) (now (ws .entry)) (now (cs .entry)) ⌝ }
 {
-    let counters = counter_table::new(NextIdx(0), t);
-    let empty = nursery_table::new(es, ws, cs);
+    let settings = ShrinkSettings {
+        base: SHRINK_BASE,
+        max: SHRINK_MAX,
+        good_save: GOOD_SAVE,
+    };
+    let none = counter_table::new(NextIdx(0), settings, t);
+    let empty = nursery_table::new(DELAY, es, ws, cs);
+    let counters = none.counters;
     let nursery = empty.nursery;
     Records { counters, nursery }
 }

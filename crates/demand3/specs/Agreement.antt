@@ -10,6 +10,7 @@ use Rattle.base.specs.Logic.{pick, all, fold}
 use Rattle.base.specs.Laws.{and-left, and-right}
 use Rattle.base.specs.ListLaws.{fold-reads}
 use Rattle.base.specs.Maybe.{maybe}
+use Rattle.counters.specs.declared.ShrinkSettings.{ShrinkSettings}
 use Rattle.counters.specs.Counts as counts
 use Rattle.counters.specs.Counts.{storedAt, countAt, fresh}
 use Rattle.counters.specs.declared.CounterTransition.{CounterTransition}
@@ -17,7 +18,6 @@ use Rattle.counters.specs.Batch as batches
 use Rattle.counters.specs.Batch.{kept}
 use Rattle.counters.specs.BatchLaws.{countAt-countsAfter}
 use Rattle.counters.specs.Layout.{batchOf}
-use Rattle.counters.specs.Maintenance.{standard}
 use Rattle.cell_nursery.specs.Entries as entries
 use Rattle.cell_nursery.specs.Entries.{Entry, empty, insert, remove}
 use Rattle.cell_nursery.specs.Items.{Delta, deltaOf}
@@ -29,7 +29,7 @@ use Rattle.node_box.specs.Box.{Box, Call, allocate, batch, batchRecords, delta,
 use Rattle.node_box.specs.Plain.{Plain, Cell, freshPlain, setAt, plainBatch, plainDelta, plainTaken, plainStep, runPlain}
 use Rattle.node_box.specs.Demand.{typed, History, Typed, end, plain}
 use Rattle.demand3.specs.States.{countersAfter, nurseryAfter}
-use Rattle.demand3.specs.Holding.{Sizes, Holds, sizesOf, holds-start, holds-taken, refused-same}
+use Rattle.demand3.specs.Holding.{Fixed, Holds, fixedOf, holds-start, holds-taken, refused-same}
 
 -- an entry without its hash
 abbrev pub cellOf : Entry → Cell
@@ -106,59 +106,59 @@ agrees-delta d p c n a =
     }
 
 -- ---- a call
-pub agrees-taken : (x : Call) (p : Plain) (c : counts.State) (n : entries.State) → Agrees p c n → Agrees (plainTaken p x) (countersAfter x c) (nurseryAfter x n)
+pub agrees-taken : (g : ShrinkSettings) (delay : ℕ) (x : Call) (p : Plain) (c : counts.State) (n : entries.State) → Agrees p c n → Agrees (plainTaken p x) (countersAfter g x c) (nurseryAfter delay x n)
 unfolding plainTaken countersAfter nurseryAfter drained
-agrees-taken allocate p c n a = record { next = rw (a .next); live = a .live; count = a .count; entry = a .entry }
-agrees-taken (batch words) p c n a = go (batchOf words)
+agrees-taken g delay allocate p c n a = record { next = rw (a .next); live = a .live; count = a .count; entry = a .entry }
+agrees-taken g delay (batch words) p c n a = go (batchOf words)
   where
     go : (o : Option (List CounterTransition)) → Agrees (maybe p (λ ts. plainBatch (kept ts) p) o) (maybe c (λ ts. batches.stateAfter (kept ts) c) o) n
     go none = a
     go (some ts) = agrees-batch (kept ts) p c n a
-agrees-taken (batchRecords ts) p c n a = agrees-batch (kept ts) p c n a
-agrees-taken (delta id wide inserts removes items) p c n a = go (deltaOf (lengthWidth wide) inserts removes items)
+agrees-taken g delay (batchRecords ts) p c n a = agrees-batch (kept ts) p c n a
+agrees-taken g delay (delta id wide inserts removes items) p c n a = go (deltaOf (lengthWidth wide) inserts removes items)
   where
     go : (o : Option Delta) → Agrees (maybe p (λ d. plainDelta d p) o) c (maybe n (λ d. stateAfter d n) o)
     go none = a
     go (some d) = agrees-delta d p c n a
-agrees-taken (drain round out) p c n a = record { next = a .next; live = a .live; count = a .count; entry = a .entry }
-agrees-taken (get idx) p c n a = a
-agrees-taken (shrink saved) p c n a = record { next = a .next; live = a .live; count = a .count; entry = a .entry }
-agrees-taken (adjust saved) p c n a = record { next = a .next; live = a .live; count = a .count; entry = a .entry }
-agrees-taken measure p c n a = a
-agrees-taken (serialize out) p c n a = a
-agrees-taken (lookup hash) p c n a = a
-agrees-taken (locate hash) p c n a = a
-agrees-taken (listing out) p c n a = a
+agrees-taken g delay (drain round out) p c n a = record { next = a .next; live = a .live; count = a .count; entry = a .entry }
+agrees-taken g delay (get idx) p c n a = a
+agrees-taken g delay (shrink saved) p c n a = record { next = a .next; live = a .live; count = a .count; entry = a .entry }
+agrees-taken g delay (adjust saved) p c n a = record { next = a .next; live = a .live; count = a .count; entry = a .entry }
+agrees-taken g delay measure p c n a = a
+agrees-taken g delay (serialize out) p c n a = a
+agrees-taken g delay (lookup hash) p c n a = a
+agrees-taken g delay (locate hash) p c n a = a
+agrees-taken g delay (listing out) p c n a = a
 
 -- ---- a box and its plain box
-pub record InStep (z : Sizes) (b : Box) (p : Plain) : Type 0 where
+pub record InStep (z : Fixed) (b : Box) (p : Plain) : Type 0 where
   pub counters : counts.State
   pub nursery : entries.State
   pub holds : Holds z b counters nursery
   pub agrees : Agrees p counters nursery
 
-step-in-step : {z : Sizes} {b : Box} {p : Plain} (x : Call) → typed x ≡ true → InStep z b p → InStep z (step b x .1) (plainStep p x (accepted (step b x .0)))
+step-in-step : {z : Fixed} {b : Box} {p : Plain} (x : Call) → typed x ≡ true → InStep z b p → InStep z (step b x .1) (plainStep p x (accepted (step b x .0)))
 unfolding plainStep
 step-in-step {z} {b} {p} x t s = go (accepted (step b x .0)) refl
   where
     go : (ok : Bool) → accepted (step b x .0) ≡ ok → InStep z (step b x .1) (pick ok (plainTaken p x) p)
     go true e =
         record {
-          counters = countersAfter x (s .counters);
-          nursery = nurseryAfter x (s .nursery);
+          counters = countersAfter (z .settings .shrink) x (s .counters);
+          nursery = nurseryAfter (z .settings .delay) x (s .nursery);
           holds = holds-taken (s .holds) x t e;
-          agrees = agrees-taken x p (s .counters) (s .nursery) (s .agrees);
+          agrees = agrees-taken (z .settings .shrink) (z .settings .delay) x p (s .counters) (s .nursery) (s .agrees);
         }
     go false e = rw (refused-same _ (s .holds .nursery) x e) s
 
-run-in-step : {z : Sizes} {b : Box} {p : Plain} (xs : List Call) → all typed xs ≡ true → InStep z b p → InStep z (run b xs) (runPlain p xs (answers b xs))
+run-in-step : {z : Fixed} {b : Box} {p : Plain} (xs : List Call) → all typed xs ≡ true → InStep z b p → InStep z (run b xs) (runPlain p xs (answers b xs))
 unfolding run runPlain answers all
 run-in-step [] t s = s
 run-in-step (x ∷ xs) t s = run-in-step xs (and-right (typed x) (all typed xs) t) (step-in-step x (and-left (typed x) (all typed xs) t) s)
 
 -- after any calls the box is in step with its plain box
-pub in-step : (h : History) → Typed h → InStep (sizesOf h) (end h) (plain h)
+pub in-step : (h : History) → Typed h → InStep (fixedOf h) (end h) (plain h)
 unfolding end plain
 in-step h t =
     run-in-step (h .calls) (t .calls)
-    (record { counters = fresh (standard .base) (h .next); nursery = empty; holds = holds-start h t; agrees = agrees-fresh (standard .base) (h .next) })
+    (record { counters = fresh (h .settings .shrink .base) (h .next); nursery = empty; holds = holds-start h t; agrees = agrees-fresh (h .settings .shrink .base) (h .next) })

@@ -11,11 +11,11 @@ use Rattle.base.specs.Output.{fitting, put, written}
 use Rattle.base.specs.declared.Answer.{Answer}
 use Rattle.base.specs.declared.Answer.the-variants.{Taken}
 use Rattle.base.specs.declared.Refusal.the-variants.{Broken}
+use Rattle.counters.specs.declared.ShrinkSettings.{ShrinkSettings}
 use Rattle.counters.specs.declared.Counters.{Counters}
 use Rattle.counters.specs.declared.Shrunk.{Shrunk}
 use Rattle.counters.specs.Counts as counts
 use Rattle.counters.specs.Batch.{applyBatch}
-use Rattle.counters.specs.Maintenance.{standard}
 use Rattle.counters.specs.Layout.{recordOf, batchOf}
 use Rattle.counters.specs.WordLaws.{words-batch}
 use Rattle.counters.specs.Calls as counters-calls
@@ -27,23 +27,23 @@ use Rattle.cell_nursery.specs.declared.Nursery.{Nursery}
 use Rattle.cell_nursery.specs.Entries as entries
 use Rattle.cell_nursery.specs.Delta.{applyDelta}
 use Rattle.cell_nursery.specs.Items.{deltaOf}
-use Rattle.cell_nursery.specs.Drain.{promotionDelay, drainBytes, listingBytes}
+use Rattle.cell_nursery.specs.Drain.{drainBytes, listingBytes}
 use Rattle.cell_nursery.specs.Calls as nursery-calls
 use Rattle.cell_nursery.specs.Calls.{lengthWidth, deltaCall, drainedOut, drainCall, foundOf, lookupCall, dataOf, dataCall, listingCall}
 use Rattle.node_box.specs.Box.{Box, Call, allocate, batch, batchRecords, delta, drain, get, shrink, adjust, measure, serialize, lookup, locate, listing, step}
 use Rattle.demand3.specs.CountersHeld.{counters-hold, counters-state, counters-length}
-use Rattle.demand3.specs.NurseryHeld.{roomFor, nursery-holds, nursery-state, entries-hold, cells-hold, room-same}
-use Rattle.demand3.specs.Holding.{Sizes, Holds}
+use Rattle.demand3.specs.NurseryHeld.{roomFor, delay-same, nursery-holds, nursery-state, entries-hold, cells-hold, room-same}
+use Rattle.demand3.specs.Holding.{Fixed, Holds}
 use Rattle.demand3.specs.Outputs.{entries-are}
 
--- the answer to a call on a box that holds two states in tables of given lengths
-unfoldable pub answerTo : Sizes → counts.State → entries.State → Call → Answer
+-- the answer to a call on a box that holds two states under given settings, in tables of given lengths
+unfoldable pub answerTo : Fixed → counts.State → entries.State → Call → Answer
 answerTo z c n allocate = answerOf (counts.allocate (c .next))
 answerTo z c n (batch words) = answerOf (orRefuse Broken (batchOf words) >>= applyBatch (z .counts / 2) c)
 answerTo z c n (batchRecords ts) = answerOf (applyBatch (z .counts / 2) c ts)
 answerTo z c n (delta id wide inserts removes items) =
     answerOf (orRefuse Broken (deltaOf (lengthWidth wide) inserts removes items) >>= applyDelta (roomFor (z .entries) (z .waiting) (z .cells)) n)
-answerTo z c n (drain round out) = answerOf (fitting out (taken (drainBytes promotionDelay round n)))
+answerTo z c n (drain round out) = answerOf (fitting out (taken (drainBytes (z .settings .delay) round n)))
 answerTo z c n (get idx) = answerOf (counts.get c idx)
 answerTo z c n (shrink saved) = Taken
 answerTo z c n (adjust saved) = Taken
@@ -59,15 +59,15 @@ unfolding allocated
 alloc-says c (refused r) = refl
 alloc-says c (taken n) = refl
 
-counters-say : (c : Counters) (t : List ℕ) (o : Outcome counts.State) → counters-calls.laidOut c t o .result .answer ≡ answerOf o
+counters-say : (g : ShrinkSettings) (c : Counters) (t : List ℕ) (o : Outcome counts.State) → counters-calls.laidOut g c t o .result .answer ≡ answerOf o
 unfolding counters-calls.laidOut counters-calls.laid
-counters-say c t (refused r) = refl
-counters-say c t (taken s) = refl
+counters-say g c t (refused r) = refl
+counters-say g c t (taken s) = refl
 
-nursery-says : (r : Nursery) (es ws cs : List ℕ) (o : Outcome entries.State) → nursery-calls.laidOut r es ws cs o .result .answer ≡ answerOf o
+nursery-says : (delay : ℕ) (r : Nursery) (es ws cs : List ℕ) (o : Outcome entries.State) → nursery-calls.laidOut delay r es ws cs o .result .answer ≡ answerOf o
 unfolding nursery-calls.laidOut nursery-calls.laid
-nursery-says r es ws cs (refused q) = refl
-nursery-says r es ws cs (taken s) = refl
+nursery-says delay r es ws cs (refused q) = refl
+nursery-says delay r es ws cs (taken s) = refl
 
 drain-says : (r : Nursery) (ws out : List ℕ) (o : Outcome (List ℕ)) (s : entries.State) → drainedOut r ws out o s .result .answer ≡ answerOf o
 unfolding drainedOut
@@ -94,19 +94,19 @@ unfolding written
 written-says n o = put-says (zeros n) (fitting (length (zeros n)) o) ∙ rw (length-replicate {A = ℕ} n 0)
 
 -- ---- a call's answer
-module _ {z : Sizes} {b : Box} {c : counts.State} {n : entries.State} (h : Holds z b c n) where
+module _ {z : Fixed} {b : Box} {c : counts.State} {n : entries.State} (h : Holds z b c n) where
   pub answer-is : (x : Call) → step b x .0 ≡ answerTo z c n x
   unfolding step answerTo allocCall batchCall counters-calls.onState getCall deltaCall nursery-calls.onState drainCall decided lengthCall serializeCall lookupCall dataCall listingCall recordOf
   answer-is allocate = alloc-says (b .counters) _ ∙ ap (λ (d : Counters). answerOf (counts.allocate (d .«next_idx» .0))) (h .counters .same-record)
-  answer-is (batch words) = counters-say (b .counters) (b .counts) _ ∙ rw (counters-hold (h .counters), counters-state (h .counters), counters-length (h .counters))
+  answer-is (batch words) = counters-say (b .counters .settings) (b .counters) (b .counts) _ ∙ rw (counters-hold (h .counters), counters-state (h .counters), counters-length (h .counters))
   answer-is (batchRecords ts) =
-      counters-say (b .counters) (b .counts) _ ∙ rw (counters-hold (h .counters), counters-state (h .counters), counters-length (h .counters), words-batch ts)
+      counters-say (b .counters .settings) (b .counters) (b .counts) _ ∙ rw (counters-hold (h .counters), counters-state (h .counters), counters-length (h .counters), words-batch ts)
   answer-is (delta id wide inserts removes items) =
-      nursery-says (b .nursery) (b .entries) (b .waiting) (b .cells) _ ∙ rw (nursery-holds (h .nursery), nursery-state (h .nursery), room-same (h .nursery))
+      nursery-says (b .nursery .delay) (b .nursery) (b .entries) (b .waiting) (b .cells) _ ∙ rw (nursery-holds (h .nursery), nursery-state (h .nursery), room-same (h .nursery))
   answer-is (drain round out) =
-      drain-says (b .nursery) (b .waiting) (zeros out) _ _ ∙ rw (nursery-holds (h .nursery), nursery-state (h .nursery), length-replicate {A = ℕ} out 0)
+      drain-says (b .nursery) (b .waiting) (zeros out) _ _ ∙ rw (nursery-holds (h .nursery), nursery-state (h .nursery), length-replicate {A = ℕ} out 0, delay-same (h .nursery))
   answer-is (get idx) = rw (counters-hold (h .counters), counters-state (h .counters))
-  answer-is (shrink saved) = ap (λ (r : Shrunk). r .answer) (shrink-held standard (b .counters) (b .counts) saved (counters-hold (h .counters)))
+  answer-is (shrink saved) = ap (λ (r : Shrunk). r .answer) (shrink-held (b .counters) (b .counts) saved (counters-hold (h .counters)))
   answer-is (adjust saved) = refl
   answer-is measure = rw (counters-hold (h .counters))
   answer-is (serialize out) = written-says out _ ∙ rw (counters-hold (h .counters), counters-state (h .counters))

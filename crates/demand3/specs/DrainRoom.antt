@@ -19,12 +19,12 @@ use Rattle.base.specs.declared.Answer.the-variants.{Taken}
 use Rattle.counters.specs.Counts as counts
 use Rattle.cell_nursery.specs.Entries as entries
 use Rattle.cell_nursery.specs.Entries.{Entry, Waiting, State, names, tied, cellBytes}
-use Rattle.cell_nursery.specs.Drain.{promotionDelay, due, named, promoted, promotedBytes, drainBytes}
+use Rattle.cell_nursery.specs.Drain.{due, named, promoted, promotedBytes, drainBytes}
 use Rattle.cell_nursery.specs.DrainLaws.{named-above}
 use Rattle.cell_nursery.specs.ItemLaws.{length-hashBytes}
 use Rattle.cell_nursery.specs.WaitLaws.{waiterFor, goneOf, tied-waits}
 use Rattle.node_box.specs.Box.{Box, drain, step}
-use Rattle.demand3.specs.Holding.{Sizes, Holds}
+use Rattle.demand3.specs.Holding.{Fixed, Holds}
 use Rattle.demand3.specs.Answered.{answerTo, answer-is}
 
 -- the bytes of an entry that is handed out
@@ -76,10 +76,10 @@ module _ (s : State) (o : ascendingFrom 0 (map (λ e. e .hash) (s .entries)) ≡
       omega (arith, bytes, some-due, all-rows, sizes)
 
 -- a drain into an output that has room for all entries and cells that the tables have room for is always taken
-module _ {z : Sizes} {b : Box} {c : counts.State} {n : entries.State} (h : Holds z b c n) where
+module _ {z : Fixed} {b : Box} {c : counts.State} {n : entries.State} (h : Holds z b c n) where
   pub drain-fits : (round out : ℕ) → 42 * min (z .entries / 8) (z .waiting / 5) + z .cells ≤ out → step b (drain round out) .0 ≡ Taken
   unfolding answerTo fitting
   drain-fits round out room =
       let held = h .nursery in
-      let bytes = drain-length n (held .well .hashes) (held .well .ties) promotionDelay round in
-      answer-is h (drain round out) ∙ rw (le-ltb out (length (drainBytes promotionDelay round n)) (omega (arith, bytes, room, held .rows-fit, held .cells-fit)))
+      let bytes = drain-length n (held .well .hashes) (held .well .ties) (z .settings .delay) round in
+      answer-is h (drain round out) ∙ rw (le-ltb out (length (drainBytes (z .settings .delay) round n)) (omega (arith, bytes, room, held .rows-fit, held .cells-fit)))

@@ -1,7 +1,7 @@
 -- A box that started fresh always holds a state: after every call its records and tables are those of two states, its tables are as long as
 -- they were, and every waiting row is an entry's.
 -- Assumes nothing.
-use mathlib.Core.Path.{_≡_, refl}
+use mathlib.Core.Path.{_≡_, refl, ap, _∙_}
 use mathlib.Core.Bool.{Bool, true, false, _&&_, true≢false, false≢true}
 use mathlib.Core.List.{List, [], _∷_}
 use Prim.Native.Nat.{ℕ, _^_, _<_}
@@ -13,31 +13,36 @@ use Rattle.base.specs.Laws.{and-left, and-right}
 use Rattle.base.specs.declared.Answer.{Answer}
 use Rattle.base.specs.declared.Answer.the-variants.{Taken, Refused}
 use Rattle.base.specs.declared.Refusal.{Refusal}
+use Rattle.counters.specs.declared.ShrinkSettings.{ShrinkSettings}
 use Rattle.counters.specs.Counts as counts
 use Rattle.counters.specs.Counts.{fresh}
-use Rattle.counters.specs.Maintenance.{standard}
-use Rattle.counters.specs.Layout.{wordsOf}
-use Rattle.counters.specs.CallLaws.{alloc-refused, batch-refused, shrink-refused}
+use Rattle.counters.specs.Maintenance.{inRange}
+use Rattle.counters.specs.Layout.{recordOf, withMaintenance, wordsOf}
+use Rattle.counters.specs.CallLaws.{alloc-refused, batch-refused, shrink-refused, alloc-settings, batch-settings, shrink-settings}
 use Rattle.cell_nursery.specs.Entries as entries
 use Rattle.cell_nursery.specs.Entries.{empty}
+use Rattle.cell_nursery.specs.Layout as nursery
+use Rattle.cell_nursery.specs.Layout.{delayInRange}
+use Rattle.cell_nursery.specs.SettingLaws.{delta-delay, drain-delay}
 use Rattle.base.specs.SpellLaws.{Bytes}
-use Rattle.node_box.specs.Box.{Box, Call, allocate, batch, batchRecords, delta, drain, get, shrink, adjust, measure, serialize, lookup, locate, listing, made, accepted, withCounters, withNursery, step, run}
+use Rattle.node_box.specs.Box.{Settings, settingsInRange, settingsOf, Box, Call, allocate, batch, batchRecords, delta, drain, get, shrink, adjust, measure, serialize, lookup, locate, listing, made, accepted, withCounters, withNursery, step, run}
 use Rattle.node_box.specs.Demand.{typed, History, Typed, start, end}
 use Rattle.demand3.specs.States.{countersAfter, nurseryAfter}
 use Rattle.demand3.specs.CountersHeld.{CountersHeld, new-held, alloc-held, batch-held-after, records-held-after, adjust-held-after, shrink-held-after}
 use Rattle.demand3.specs.NurseryHeld.{NurseryHeld, new-nursery, delta-taken, delta-refused, delta-held, drain-held, drain-refused}
 
--- how long the four tables are
-pub record Sizes : Type 0 where
+-- what no call changes: the settings, and how long the four tables are
+pub record Fixed : Type 0 where
+  pub settings : Settings
   pub counts : ℕ
   pub entries : ℕ
   pub waiting : ℕ
   pub cells : ℕ
 
--- the box holds the two states in tables of these lengths
-pub record Holds (z : Sizes) (b : Box) (c : counts.State) (n : entries.State) : Type 0 where
-  pub counters : CountersHeld (z .counts) (b .counters) (b .counts) c
-  pub nursery : NurseryHeld (z .entries) (z .waiting) (z .cells) (b .nursery) (b .entries) (b .waiting) (b .cells) n
+-- the box holds the two states under these settings, in tables of these lengths
+pub record Holds (z : Fixed) (b : Box) (c : counts.State) (n : entries.State) : Type 0 where
+  pub counters : CountersHeld (z .settings .shrink) (z .counts) (b .counters) (b .counts) c
+  pub nursery : NurseryHeld (z .settings .delay) (z .entries) (z .waiting) (z .cells) (b .nursery) (b .entries) (b .waiting) (b .cells) n
 
 -- ---- answers
 pub answer-taken : (a : Answer) → accepted a ≡ true → a ≡ Taken
@@ -66,8 +71,8 @@ delta-typed id wide inserts removes items t =
 
 -- ---- a call
 -- an accepted one makes its next state of each of the two
-module _ {len : ℕ} (b : Box) {c : counts.State} (h : CountersHeld len (b .counters) (b .counts) c) where
-  counters-taken : (x : Call) → typed x ≡ true → accepted (step b x .0) ≡ true → CountersHeld len (step b x .1 .counters) (step b x .1 .counts) (countersAfter x c)
+module _ {g : ShrinkSettings} {len : ℕ} (b : Box) {c : counts.State} (h : CountersHeld g len (b .counters) (b .counts) c) where
+  counters-taken : (x : Call) → typed x ≡ true → accepted (step b x .0) ≡ true → CountersHeld g len (step b x .1 .counters) (step b x .1 .counts) (countersAfter g x c)
   unfolding step withCounters withNursery countersAfter typed
   counters-taken allocate t e = alloc-held h (answer-taken _ e)
   counters-taken (batch words) t e = batch-held-after h words t (answer-taken _ e)
@@ -83,9 +88,9 @@ module _ {len : ℕ} (b : Box) {c : counts.State} (h : CountersHeld len (b .coun
   counters-taken (locate hash) t e = h
   counters-taken (listing out) t e = h
 
-module _ {le lw lc : ℕ} (b : Box) {n : entries.State} (h : NurseryHeld le lw lc (b .nursery) (b .entries) (b .waiting) (b .cells) n) where
+module _ {delay le lw lc : ℕ} (b : Box) {n : entries.State} (h : NurseryHeld delay le lw lc (b .nursery) (b .entries) (b .waiting) (b .cells) n) where
   pub nursery-taken : (x : Call) → typed x ≡ true → accepted (step b x .0) ≡ true
-      → let b′ = step b x .1 in NurseryHeld le lw lc (b′ .nursery) (b′ .entries) (b′ .waiting) (b′ .cells) (nurseryAfter x n)
+      → let b′ = step b x .1 in NurseryHeld delay le lw lc (b′ .nursery) (b′ .entries) (b′ .waiting) (b′ .cells) (nurseryAfter delay x n)
   unfolding step withCounters withNursery nurseryAfter
   nursery-taken allocate t e = h
   nursery-taken (batch words) t e = h
@@ -123,7 +128,7 @@ module _ {le lw lc : ℕ} (b : Box) {n : entries.State} (h : NurseryHeld le lw l
       let q = drain-refused h round (zeros out) (r .0) (r .1) in
       rw (q .0, q .1)
   refused-same (get idx) e = refl
-  refused-same (shrink saved) e = let r = answer-refused _ e in rw (shrink-refused standard (b .counters) (b .counts) saved (r .0) (r .1))
+  refused-same (shrink saved) e = let r = answer-refused _ e in rw (shrink-refused (b .counters) (b .counts) saved (r .0) (r .1))
   refused-same (adjust saved) e = absurd (true≢false e)
   refused-same measure e = refl
   refused-same (serialize out) e = refl
@@ -131,37 +136,73 @@ module _ {le lw lc : ℕ} (b : Box) {n : entries.State} (h : NurseryHeld le lw l
   refused-same (locate hash) e = refl
   refused-same (listing out) e = refl
 
-pub holds-taken : {z : Sizes} {b : Box} {c : counts.State} {n : entries.State} → Holds z b c n → (x : Call) → typed x ≡ true → accepted (step b x .0) ≡ true
-    → Holds z (step b x .1) (countersAfter x c) (nurseryAfter x n)
+pub holds-taken : {z : Fixed} {b : Box} {c : counts.State} {n : entries.State} → Holds z b c n → (x : Call) → typed x ≡ true → accepted (step b x .0) ≡ true
+    → Holds z (step b x .1) (countersAfter (z .settings .shrink) x c) (nurseryAfter (z .settings .delay) x n)
 holds-taken {b = b} h x t e = record { counters = counters-taken b (h .counters) x t e; nursery = nursery-taken b (h .nursery) x t e }
 
 -- ---- a box as it is made, and after any calls
-abbrev pub sizesOf : History → Sizes
-sizesOf h = record { counts = length (h .counts); entries = length (h .entries); waiting = length (h .waiting); cells = length (h .cells) }
+abbrev pub fixedOf : History → Fixed
+fixedOf h = record { settings = h .settings; counts = length (h .counts); entries = length (h .entries); waiting = length (h .waiting); cells = length (h .cells) }
 
-pub holds-start : (h : History) → Typed h → Holds (sizesOf h) (start h) (fresh (standard .base) (h .next)) empty
-unfolding start made
-holds-start h t = record { counters = new-held (standard .base) (h .next) (h .counts) (t .next); nursery = new-nursery (h .entries) (h .waiting) (h .cells) }
+pub holds-start : (h : History) → Typed h → Holds (fixedOf h) (start h) (fresh (h .settings .shrink .base) (h .next)) empty
+unfolding start made settingsInRange
+holds-start h t =
+    let g = h .settings in
+    record {
+      counters = new-held (g .shrink) (h .next) (h .counts) (and-right (delayInRange (g .delay)) (inRange (g .shrink)) (t .settings)) (t .next);
+      nursery = new-nursery (g .delay) (h .entries) (h .waiting) (h .cells) (and-left (delayInRange (g .delay)) (inRange (g .shrink)) (t .settings));
+    }
 
 -- the box holds two states
-pub record Holding (z : Sizes) (b : Box) : Type 0 where
+pub record Holding (z : Fixed) (b : Box) : Type 0 where
   pub counters : counts.State
   pub nursery : entries.State
   pub holds : Holds z b counters nursery
 
-pub holding-step : {z : Sizes} {b : Box} (x : Call) → typed x ≡ true → Holding z b → Holding z (step b x .1)
+pub holding-step : {z : Fixed} {b : Box} (x : Call) → typed x ≡ true → Holding z b → Holding z (step b x .1)
 holding-step {z} {b} x t h = go (accepted (step b x .0)) refl
   where
     go : (ok : Bool) → accepted (step b x .0) ≡ ok → Holding z (step b x .1)
-    go true e = record { counters = countersAfter x (h .counters); nursery = nurseryAfter x (h .nursery); holds = holds-taken (h .holds) x t e }
+    go true e = record { counters = countersAfter (z .settings .shrink) x (h .counters); nursery = nurseryAfter (z .settings .delay) x (h .nursery); holds = holds-taken (h .holds) x t e }
     go false e = rw (refused-same b (h .holds .nursery) x e) h
 
-pub holding-run : {z : Sizes} {b : Box} (xs : List Call) → all typed xs ≡ true → Holding z b → Holding z (run b xs)
+pub holding-run : {z : Fixed} {b : Box} (xs : List Call) → all typed xs ≡ true → Holding z b → Holding z (run b xs)
 unfolding run all
 holding-run [] t h = h
 holding-run (x ∷ xs) t h = holding-run xs (and-right (typed x) (all typed xs) t) (holding-step x (and-left (typed x) (all typed xs) t) h)
 
 -- a box that started fresh always holds a state
-pub holding : (h : History) → Typed h → Holding (sizesOf h) (end h)
+pub holding : (h : History) → Typed h → Holding (fixedOf h) (end h)
 unfolding end
-holding h t = holding-run (h .calls) (t .calls) (record { counters = fresh (standard .base) (h .next); nursery = empty; holds = holds-start h t })
+holding h t = holding-run (h .calls) (t .calls) (record { counters = fresh (h .settings .shrink .base) (h .next); nursery = empty; holds = holds-start h t })
+
+-- no call changes the settings: of any record and tables
+pub step-settings : (b : Box) (x : Call) → settingsOf (step b x .1) ≡ settingsOf b
+unfolding step withCounters withNursery withMaintenance
+step-settings b allocate = ap (λ (g : ShrinkSettings). record { delay = b .nursery .delay; shrink = g }) (alloc-settings (b .counters))
+step-settings b (batch words) = ap (λ (g : ShrinkSettings). record { delay = b .nursery .delay; shrink = g }) (batch-settings (b .counters) (b .counts) words)
+step-settings b (batchRecords ts) = ap (λ (g : ShrinkSettings). record { delay = b .nursery .delay; shrink = g }) (batch-settings (b .counters) (b .counts) (wordsOf ts))
+step-settings b (delta id wide inserts removes items) =
+    ap (λ (d : ℕ). record { delay = d; shrink = b .counters .settings }) (delta-delay (b .nursery) (b .entries) (b .waiting) (b .cells) wide inserts removes items)
+step-settings b (drain round out) =
+    ap (λ (d : ℕ). record { delay = d; shrink = b .counters .settings }) (drain-delay (b .nursery) (b .entries) (b .waiting) (b .cells) round (zeros out))
+step-settings b (get idx) = refl
+step-settings b (shrink saved) = ap (λ (g : ShrinkSettings). record { delay = b .nursery .delay; shrink = g }) (shrink-settings (b .counters) (b .counts) saved)
+step-settings b (adjust saved) = refl
+step-settings b measure = refl
+step-settings b (serialize out) = refl
+step-settings b (lookup hash) = refl
+step-settings b (locate hash) = refl
+step-settings b (listing out) = refl
+
+-- so a box has those that it was made with
+pub settings-run : (b : Box) (xs : List Call) → settingsOf (run b xs) ≡ settingsOf b
+unfolding run
+settings-run b [] = refl
+settings-run b (x ∷ xs) = settings-run (step b x .1) xs ∙ step-settings b x
+
+pub settings-kept : (h : History) → Typed h → settingsOf (end h) ≡ h .settings
+unfolding end recordOf nursery.recordOf
+settings-kept h t =
+    let s = holds-start h t in
+    settings-run (start h) (h .calls) ∙ rw (s .counters .same-record, s .nursery .same-record)

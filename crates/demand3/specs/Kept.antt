@@ -1,5 +1,5 @@
--- What is kept of a box that started fresh, whatever was called on it: its records and tables hold states, its tables are as long as they
--- were, their words are u64 and the cells' bytes are bytes.
+-- What is kept of a box that started fresh, whatever was called on it: its records and tables hold states, it has its settings, its tables are as
+-- long as they were, their words are u64 and the cells' bytes are bytes.
 -- Assumes nothing.
 use mathlib.Core.Path.{_≡_, refl}
 use mathlib.Core.Bool.{Bool, true, false, not}
@@ -18,7 +18,6 @@ use Rattle.rows.specs.RowLaws.{all-put}
 use Rattle.rows.specs.KeyLaws.{putRows}
 use Rattle.counters.specs.Counts as counts
 use Rattle.counters.specs.Counts.{fresh}
-use Rattle.counters.specs.Maintenance.{standard}
 use Rattle.counters.specs.Layout as counters
 use Rattle.cell_nursery.specs.Entries.{Entry, State, empty, tied, putEntry, insert, remove}
 use Rattle.cell_nursery.specs.Items.{Delta, deltaOf}
@@ -28,12 +27,12 @@ use Rattle.cell_nursery.specs.Layout as nursery
 use Rattle.cell_nursery.specs.Calls.{lengthWidth}
 use Rattle.cell_nursery.specs.HashLaws.{U64}
 use Rattle.journal_laws.specs.DeltaLaws.{delta-read}
-use Rattle.node_box.specs.Box.{Box, Call, allocate, batch, batchRecords, delta, drain, get, shrink, adjust, measure, serialize, lookup, locate, listing, step, run, accepted, nurseryOf}
+use Rattle.node_box.specs.Box.{Box, settingsOf, Call, allocate, batch, batchRecords, delta, drain, get, shrink, adjust, measure, serialize, lookup, locate, listing, step, run, accepted, nurseryOf}
 use Rattle.node_box.specs.Demand.{typed, History, Typed, end}
 use Rattle.demand3.specs.States.{countersAfter, nurseryAfter}
 use Rattle.demand3.specs.CountersHeld.{counters-hold, counters-length}
 use Rattle.demand3.specs.NurseryHeld.{nursery-holds, nursery-state, entries-length, waiting-length, cells-length}
-use Rattle.demand3.specs.Holding.{Sizes, Holds, sizesOf, delta-typed, holds-start, holds-taken, refused-same}
+use Rattle.demand3.specs.Holding.{Fixed, Holds, fixedOf, delta-typed, holds-start, holds-taken, refused-same, settings-kept}
 use Rattle.demand3.specs.TableWords.{all-words, counts-table, entries-table, waiting-table, cells-table}
 
 -- ---- the cells are bytes
@@ -53,61 +52,63 @@ unfolding fold remove
 bytes-removes [] s b = b
 bytes-removes (h ∷ hs) s b = bytes-removes hs (remove h s) (all-keep (λ e. all (λ x. ltb x 256) (e .cell)) (λ e. not (eqb (e .hash) h)) (s .entries) b)
 
-bytes-after : (x : Call) (n : State) → typed x ≡ true → ByteCells (n .entries) → ByteCells (nurseryAfter x n .entries)
+bytes-after : (delay : ℕ) (x : Call) (n : State) → typed x ≡ true → ByteCells (n .entries) → ByteCells (nurseryAfter delay x n .entries)
 unfolding nurseryAfter drained stateAfter
-bytes-after allocate n t b = b
-bytes-after (batch words) n t b = b
-bytes-after (batchRecords ts) n t b = b
-bytes-after (delta id wide inserts removes items) n t b = go (deltaOf (lengthWidth wide) inserts removes items) refl
+bytes-after delay allocate n t b = b
+bytes-after delay (batch words) n t b = b
+bytes-after delay (batchRecords ts) n t b = b
+bytes-after delay (delta id wide inserts removes items) n t b = go (deltaOf (lengthWidth wide) inserts removes items) refl
   where
     go : (o : Option Delta) → deltaOf (lengthWidth wide) inserts removes items ≡ o → ByteCells (maybe n (λ d. stateAfter d n) o .entries)
     go none e = b
     go (some d) e =
         let read = delta-read (lengthWidth wide) inserts removes items d (delta-typed id wide inserts removes items t .bytes) e in
         bytes-removes (d .removes) (fold insert (d .inserts) n) (bytes-inserts (d .inserts) n (read .cells) b)
-bytes-after (drain round out) n t b = b
-bytes-after (get idx) n t b = b
-bytes-after (shrink saved) n t b = b
-bytes-after (adjust saved) n t b = b
-bytes-after measure n t b = b
-bytes-after (serialize out) n t b = b
-bytes-after (lookup hash) n t b = b
-bytes-after (locate hash) n t b = b
-bytes-after (listing out) n t b = b
+bytes-after delay (drain round out) n t b = b
+bytes-after delay (get idx) n t b = b
+bytes-after delay (shrink saved) n t b = b
+bytes-after delay (adjust saved) n t b = b
+bytes-after delay measure n t b = b
+bytes-after delay (serialize out) n t b = b
+bytes-after delay (lookup hash) n t b = b
+bytes-after delay (locate hash) n t b = b
+bytes-after delay (listing out) n t b = b
 
 -- ---- after any calls
 -- the box holds two states, and the cells are bytes
-record HeldBytes (z : Sizes) (b : Box) : Type 0 where
+record HeldBytes (z : Fixed) (b : Box) : Type 0 where
   first : counts.State
   second : State
   holds : Holds z b first second
   bytes : ByteCells (second .entries)
 
-held-step : {z : Sizes} {b : Box} (x : Call) → typed x ≡ true → HeldBytes z b → HeldBytes z (step b x .1)
+held-step : {z : Fixed} {b : Box} (x : Call) → typed x ≡ true → HeldBytes z b → HeldBytes z (step b x .1)
 held-step {z} {b} x t h = go (accepted (step b x .0)) refl
   where
     go : (ok : Bool) → accepted (step b x .0) ≡ ok → HeldBytes z (step b x .1)
     go true e =
         record {
-          first = countersAfter x (h .first);
-          second = nurseryAfter x (h .second);
+          first = countersAfter (z .settings .shrink) x (h .first);
+          second = nurseryAfter (z .settings .delay) x (h .second);
           holds = holds-taken (h .holds) x t e;
-          bytes = bytes-after x (h .second) t (h .bytes);
+          bytes = bytes-after (z .settings .delay) x (h .second) t (h .bytes);
         }
     go false e = rw (refused-same b (h .holds .nursery) x e) h
 
-held-run : {z : Sizes} {b : Box} (xs : List Call) → all typed xs ≡ true → HeldBytes z b → HeldBytes z (run b xs)
+held-run : {z : Fixed} {b : Box} (xs : List Call) → all typed xs ≡ true → HeldBytes z b → HeldBytes z (run b xs)
 unfolding run all
 held-run [] t h = h
 held-run (x ∷ xs) t h = held-run xs (and-right (typed x) (all typed xs) t) (held-step x (and-left (typed x) (all typed xs) t) h)
 
-held-end : (a : History) → Typed a → HeldBytes (sizesOf a) (end a)
+held-end : (a : History) → Typed a → HeldBytes (fixedOf a) (end a)
 unfolding end empty all
-held-end a t = held-run (a .calls) (t .calls) (record { first = fresh (standard .base) (a .next); second = empty; holds = holds-start a t; bytes = refl })
+held-end a t = held-run (a .calls) (t .calls) (record { first = fresh (a .settings .shrink .base) (a .next); second = empty; holds = holds-start a t; bytes = refl })
 
 pub record Kept (a : History) : Type 0 where
   pub counters-held : counters.holds (end a .counters) (end a .counts) ≡ true
   pub nursery-held : nursery.holds (end a .nursery) (end a .entries) (end a .waiting) (end a .cells) ≡ true
+  -- the settings that it was made with
+  pub settings : settingsOf (end a) ≡ a .settings
   -- the tables' lengths
   pub counts-length : length (end a .counts) ≡ length (a .counts)
   pub entries-length : length (end a .entries) ≡ length (a .entries)
@@ -127,6 +128,7 @@ kept a t =
     let c = h .holds .counters in
     let n = h .holds .nursery in
     record {
+      settings = settings-kept a t;
       counters-held = counters-hold c;
       nursery-held = nursery-holds n;
       counts-length = counters-length c;

@@ -8,6 +8,7 @@ use lib.ListN.{length, length-replicate}
 use Rattle.base.specs.Logic.{zeros}
 use Rattle.base.specs.Answers.{taken}
 use Rattle.base.specs.Output.{written}
+use Rattle.counters.specs.declared.ShrinkSettings.{ShrinkSettings}
 use Rattle.counters.specs.Counts as counts
 use Rattle.counters.specs.Layout.{stateOf}
 use Rattle.counters.specs.Calls.{onState}
@@ -26,12 +27,12 @@ use Rattle.demand3.specs.NurseryHeld.{NurseryHeld, nursery-state, entrie
 given-zeros : (bs : List ℕ) → given (written (zeros (length bs)) (taken bs)) ≡ bs
 given-zeros bs = written-whole (taken bs) (zeros (length bs)) (rw (length-replicate {A = ℕ} (length bs) 0) (omega arith)) .0
 
-module _ {len : ℕ} {s : counts.State} (b : Box) (h : CountersHeld len (b .counters) (b .counts) s) where
+module _ {g : ShrinkSettings} {len : ℕ} {s : counts.State} (b : Box) (h : CountersHeld g len (b .counters) (b .counts) s) where
   pub snapshot-is : snapshotOf b ≡ snapshotBytes s
   unfolding snapshotOf serializeCall onState
   snapshot-is = rw (counters-hold h, counters-state h) (given-zeros (snapshotBytes s))
 
-module _ {le lw lc : ℕ} {s : entries.State} (b : Box) (h : NurseryHeld le lw lc (b .nursery) (b .entries) (b .waiting) (b .cells) s) where
+module _ {delay le lw lc : ℕ} {s : entries.State} (b : Box) (h : NurseryHeld delay le lw lc (b .nursery) (b .entries) (b .waiting) (b .cells) s) where
   pub entries-are : entriesOf (b .nursery .entries) (b .entries) (b .cells) ≡ s .entries
   unfolding nursery.stateOf
   entries-are = ap (λ (x : entries.State). x .entries) (nursery-state h)

@@ -1,7 +1,7 @@
 -- Claim 3: the box read in from a box's snapshot and the first bytes of its journal.
 -- Assumes nothing.
 use mathlib.Core.Path.{_≡_, refl, sym, ap, subst, _∙_}
-use mathlib.Core.Bool.{false}
+use mathlib.Core.Bool.{true, false}
 use mathlib.Core.List.{List, [], map}
 use Prim.Native.Nat.{ℕ, _≤_}
 use lib.ListN.{length, take, length-map}
@@ -9,7 +9,6 @@ use Rattle.base.specs.Logic.{flat}
 use Rattle.blake3.specs.Spec.{hash}
 use Rattle.blake3.specs.Equations.{length-hash}
 use Rattle.counters.specs.Counts as counts
-use Rattle.counters.specs.Maintenance.{standard}
 use Rattle.counters.specs.Calls as counters-calls
 use Rattle.snapshot.specs.Calls.{deserializeCall}
 use Rattle.snapshot_laws.specs.RoundTrip.{well-maintained, renewed, snapshot-same}
@@ -18,7 +17,7 @@ use Rattle.cell_nursery.specs.Entries as entries
 use Rattle.cell_nursery.specs.Entries.{empty}
 use Rattle.cell_nursery.specs.Delta.{Room}
 use Rattle.cell_nursery.specs.Drain.{listingBytes}
-use Rattle.cell_nursery.specs.Layout.{recordOf, roomOf}
+use Rattle.cell_nursery.specs.Layout.{recordOf, roomOf, delayInRange}
 use Rattle.cell_nursery.specs.Calls.{laid}
 use Rattle.cell_nursery.specs.EntryLaws.{well-empty, room-empty}
 use Rattle.journal.specs.Journal.{damaged, readJournal, ReadIn, readOut, readCall}
@@ -28,16 +27,19 @@ use Rattle.journal_laws.specs.ReadLaws.{endOf, Applies, applies-whole, applied-
 use Rattle.node_box.specs.Box.{Box, snapshotOf, listingOf}
 use Rattle.node_box.specs.Journal.{Logged, records, journalOf, whole, listingAfter, rebuild, cutEnd}
 use Rattle.node_box.specs.Demand.{History, Typed, start, end, wholeOf, wholeBytes, readBack, Rebuilt}
-use Rattle.demand3.specs.CountersHeld.{CountersHeld, laid-counters}
-use Rattle.demand3.specs.NurseryHeld.{NurseryHeld, ChangedHeld, roomFor, laid-held, nursery-state}
-use Rattle.demand3.specs.Holding.{sizesOf, holds-start, holding}
+use Rattle.demand3.specs.CountersHeld.{CountersHeld, laid-counters, settings-same}
+use Rattle.demand3.specs.NurseryHeld.{NurseryHeld, ChangedHeld, roomFor, laid-held, nursery-state, delay-same}
+use Rattle.demand3.specs.Holding.{fixedOf, holds-start, holding}
 use Rattle.demand3.specs.Outputs.{snapshot-is, listing-is}
 use Rattle.demand3.specs.Waiting.{every-waits}
 use Rattle.demand3.specs.Trace.{Step, logged, Traced, traced, wholeSteps, stepBytes, afterSteps, bytes-logged, whole-logged, listed-whole, listing-last}
 
 module _ (a : History) (ok : Typed a) (k : ℕ) (short : k ≤ length (journalOf hash (start a) (a .calls))) where
+  delay-ranged : delayInRange (a .settings .delay) ≡ true
+  delay-ranged = holds-start a ok .nursery .ranged
+
   -- the journal's deltas, and those whose records are whole
-  trace : Traced hash (sizesOf a) empty (records hash (start a) (a .calls))
+  trace : Traced hash (fixedOf a) empty (records hash (start a) (a .calls))
   trace = traced hash (a .calls) (ok .calls) (holds-start a ok) refl
 
   applied-steps : List Step
@@ -91,45 +93,45 @@ module _ (a : History) (ok : Typed a) (k : ℕ) (short : k ≤ length (journalOf
         (journal-cut hash (λ s. s .id) (λ s. s .change) length-hash room (trace .steps) (trace .applies) k (rw journal-is at short))
 
     -- so the reading is taken
-    read-is : readCall hash (take k (journalOf hash (start a) (a .calls))) es ws cs
-        ≡ readOut es ws cs
+    read-is : readCall hash (a .settings .delay) (take k (journalOf hash (start a) (a .calls))) es ws cs
+        ≡ readOut (a .settings .delay) es ws cs
         (record { state = state; records = length applied-steps; place = length (stepBytes hash applied-steps); ended = endOf (length (stepBytes hash applied-steps)) k })
-    read-is = rw (← reading) (read-undamaged hash (take k (journalOf hash (start a) (a .calls))) es ws cs undamaged)
+    read-is = rw (← reading) (read-undamaged hash (a .settings .delay) (take k (journalOf hash (start a) (a .calls))) es ws cs delay-ranged undamaged)
 
-    nursery-read : ChangedHeld (length es) (length ws) (length cs) (laid es ws cs state) state
+    nursery-read : ChangedHeld (a .settings .delay) (length es) (length ws) (length cs) (laid (a .settings .delay) es ws cs state) state
     unfolding state
     nursery-read =
-        laid-held es ws cs state (applied-well hash (λ s. s .id) (λ s. s .change) room applies well-empty)
+        laid-held (a .settings .delay) es ws cs state delay-ranged (applied-well hash (λ s. s .id) (λ s. s .change) room applies well-empty)
         (rw (le, lw, lc) (applied-fits hash (λ s. s .id) (λ s. s .change) room applies (room-empty (room .entries) (room .cells))))
 
     -- ---- the counters, read from the snapshot
     counters : counts.State
     counters = holding a ok .counters
 
-    was-held : CountersHeld (length (a .counts)) (end a .counters) (end a .counts) counters
+    was-held : CountersHeld (a .settings .shrink) (length (a .counts)) (end a .counters) (end a .counts) counters
     unfolding counters
     was-held = holding a ok .holds .counters
 
     abbrev renewedCounters : counts.State
-    renewedCounters = renewed (standard .base) counters
+    renewedCounters = renewed (a .settings .shrink .base) counters
 
-    counters-read : deserializeCall (standard .base) (snapshotOf (end a)) t ≡ counters-calls.laid (length t) renewedCounters
-    counters-read = rw (snapshot-is (end a) was-held) (deserialize-written (standard .base) counters (was-held .well) t (rw lt (was-held .fits)))
+    counters-read : deserializeCall (a .settings .shrink) (snapshotOf (end a)) t ≡ counters-calls.laid (a .settings .shrink) (length t) renewedCounters
+    counters-read = rw (snapshot-is (end a) was-held) (deserialize-written (a .settings .shrink) (was-held .ranged) counters (was-held .well) t (rw lt (was-held .fits)))
 
     -- ---- the box of both
     abbrev box : Box
     box = readBack a k t es ws cs .box
 
-    counters-held : CountersHeld (length t) (box .counters) (box .counts) renewedCounters
+    counters-held : CountersHeld (a .settings .shrink) (length t) (box .counters) (box .counts) renewedCounters
     unfolding readBack rebuild
     counters-held =
-        subst (λ (r : counters-calls.Changed). CountersHeld (length t) (r .result .counters) (r .table) renewedCounters) (sym counters-read)
-        (laid-counters (length t) renewedCounters (rw lt (was-held .fits)) (well-maintained counters (counts.freshMaintenance (standard .base)) (was-held .well)))
+        subst (λ (r : counters-calls.Changed). CountersHeld (a .settings .shrink) (length t) (r .result .counters) (r .table) renewedCounters) (sym counters-read)
+        (laid-counters (a .settings .shrink) (length t) renewedCounters (was-held .ranged) (rw lt (was-held .fits)) (well-maintained counters (counts.freshMaintenance (a .settings .shrink .base)) (was-held .well)))
 
-    nursery-held : NurseryHeld (length es) (length ws) (length cs) (box .nursery) (box .entries) (box .waiting) (box .cells) state
+    nursery-held : NurseryHeld (a .settings .delay) (length es) (length ws) (length cs) (box .nursery) (box .entries) (box .waiting) (box .cells) state
     unfolding readBack rebuild readOut
     nursery-held =
-        subst (λ (r : ReadIn). NurseryHeld (length es) (length ws) (length cs) (r .result .nursery) (r .entries) (r .waiting) (r .cells) state) (sym read-is) nursery-read
+        subst (λ (r : ReadIn). NurseryHeld (a .settings .delay) (length es) (length ws) (length cs) (r .result .nursery) (r .entries) (r .waiting) (r .cells) state) (sym read-is) nursery-read
 
     snapshot-read : snapshotOf box ≡ snapshotOf (end a)
     snapshot-read = snapshot-is box counters-held ∙ snapshot-same renewedCounters counters refl refl refl ∙ sym (snapshot-is (end a) was-held)
@@ -151,4 +153,5 @@ module _ (a : History) (ok : Typed a) (k : ℕ) (short : k ≤ length (journalOf
           place = ap (λ (r : ReadIn). r .result .place) read-is ∙ sym bytes-are;
           ended = ap (λ (r : ReadIn). r .result .ended) read-is ∙ rw bytes-are;
           waiting = rw (nursery-state nursery-held) (every-waits state all-wait (nursery-held .well .hashes));
+          settings = rw (settings-same counters-held, delay-same nursery-held);
         }

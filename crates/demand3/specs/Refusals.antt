@@ -28,7 +28,7 @@ use Rattle.snapshot.specs.Write.{snapshotBytes}
 use Rattle.cell_nursery.specs.Entries as entries
 use Rattle.cell_nursery.specs.Items.{Delta, deltaOf}
 use Rattle.cell_nursery.specs.Delta.{Room, applyDelta}
-use Rattle.cell_nursery.specs.Drain.{promotionDelay, drainBytes, listingBytes}
+use Rattle.cell_nursery.specs.Drain.{drainBytes, listingBytes}
 use Rattle.cell_nursery.specs.Calls.{lengthWidth}
 use Rattle.base.specs.AnswerLaws.{not-refused, exactly, missing-here, missing-numbers, output-full, output-numbers, says, says-numbers}
 use Rattle.cell_nursery.specs.RefusalLaws.{IsLong, IsPresent, IsFull, delta-long, delta-present, delta-full, delta-numbers}
@@ -36,11 +36,11 @@ use Rattle.node_box.specs.Box.{Box, Call, allocate, batch, batchRecords, delta,
 use Rattle.node_box.specs.Demand.{History, Typed, end}
 use Rattle.demand3.specs.CountersHeld.{counters-state}
 use Rattle.demand3.specs.NurseryHeld.{roomFor, nursery-state}
-use Rattle.demand3.specs.Holding.{Sizes, Holds, sizesOf, holding}
+use Rattle.demand3.specs.Holding.{Fixed, Holds, fixedOf, holding}
 use Rattle.demand3.specs.Answered.{answerTo, answer-is}
 
 -- what tables of these lengths have room for
-abbrev pub roomIn : Sizes → Room
+abbrev pub roomIn : Fixed → Room
 roomIn z = roomFor (z .entries) (z .waiting) (z .cells)
 
 -- the words or items of a call spell no batch, or no delta
@@ -75,7 +75,7 @@ numbersOf (lookup hash) = []
 numbersOf (locate hash) = []
 numbersOf (listing out) = 15 ∷ []
 
-module _ (z : Sizes) (b : Box) (c : counts.State) (n : entries.State) where
+module _ (z : Fixed) (b : Box) (c : counts.State) (n : entries.State) where
   -- of a call that lends transitions, as words or as records, and of one that lends a delta
   pub record BatchRefusals (x : Call) (ts : List CounterTransition) : Type 0 where
     pub unallocated : (step b x .0 ≡ Refused Unallocated) ↔ ChangesUnallocated c ts
@@ -100,7 +100,7 @@ module _ (z : Sizes) (b : Box) (c : counts.State) (n : entries.State) where
     pub of-records : (ts : List CounterTransition) → BatchRefusals (batchRecords ts) ts
     pub of-delta : (id : ℕ) (wide : Bool) (inserts removes : ℕ) (items : List ℕ) (d : Delta) → deltaOf (lengthWidth wide) inserts removes items ≡ some d
         → DeltaRefusals (delta id wide inserts removes items) d
-    pub drain-full : (round out : ℕ) → (step b (drain round out) .0 ≡ Refused OutputFull) ↔ (out < length (drainBytes promotionDelay round n))
+    pub drain-full : (round out : ℕ) → (step b (drain round out) .0 ≡ Refused OutputFull) ↔ (out < length (drainBytes (z .settings .delay) round n))
     pub snapshot-full : (out : ℕ) → (step b (serialize out) .0 ≡ Refused OutputFull) ↔ (out < length (snapshotBytes c))
     pub listing-full : (out : ℕ) → (step b (listing out) .0 ≡ Refused OutputFull) ↔ (out < length (listingBytes (n .entries)))
     pub broken : (x : Call) → (step b x .0 ≡ Refused Broken) ↔ Unspelled x
@@ -116,7 +116,7 @@ ragged words = go (eqb (length words % 3) 0) refl
     go false e = (λ q. eqb-false (length words % 3) 0 e, λ u. refl)
 
 -- ---- the table
-module _ {z : Sizes} {b : Box} {c : counts.State} {n : entries.State} (h : Holds z b c n) where
+module _ {z : Fixed} {b : Box} {c : counts.State} {n : entries.State} (h : Holds z b c n) where
   batch-refusals : (x : Call) (ts : List CounterTransition) → answerTo z c n x ≡ answerOf (applyBatch (z .counts / 2) c ts) → BatchRefusals z b c n x ts
   batch-refusals x ts e =
       let o = applyBatch (z .counts / 2) c ts in
@@ -157,7 +157,7 @@ module _ {z : Sizes} {b : Box} {c : counts.State} {n : entries.State} (h : Holds
           let spelled = deltaOf (lengthWidth wide) inserts removes items in
           says-numbers (20 ∷ 14 ∷ 12 ∷ 13 ∷ []) (orRefuse Broken spelled >>= applyDelta (roomIn z) n) refl
           (missing-numbers Broken spelled (applyDelta (roomIn z) n) (14 ∷ 12 ∷ 13 ∷ []) (λ d. delta-numbers (roomIn z) n d)) q p
-      go (drain round out) p = let bs = drainBytes promotionDelay round n in says-numbers (15 ∷ []) (fitting out (taken bs)) refl (output-numbers out bs) q p
+      go (drain round out) p = let bs = drainBytes (z .settings .delay) round n in says-numbers (15 ∷ []) (fitting out (taken bs)) refl (output-numbers out bs) q p
       go (get idx) p = says-numbers (2 ∷ []) (counts.get c idx) refl (get-numbers c idx) q p
       go (shrink saved) p = absurd (not-refused p)
       go (adjust saved) p = absurd (not-refused p)
@@ -199,7 +199,7 @@ module _ {z : Sizes} {b : Box} {c : counts.State} {n : entries.State} (h : Holds
         of-batch = λ words ts e. batch-refusals (batch words) ts (rw e);
         of-records = λ ts. batch-refusals (batchRecords ts) ts refl;
         of-delta = delta-refusals;
-        drain-full = λ round out. let bs = drainBytes promotionDelay round n in says (fitting out (taken bs)) (answer-is h (drain round out)) (output-full out bs);
+        drain-full = λ round out. let bs = drainBytes (z .settings .delay) round n in says (fitting out (taken bs)) (answer-is h (drain round out)) (output-full out bs);
         snapshot-full = λ out. says (fitting out (taken (snapshotBytes c))) (answer-is h (serialize out)) (output-full out (snapshotBytes c));
         listing-full = λ out. let bs = listingBytes (n .entries) in says (fitting out (taken bs)) (answer-is h (listing out)) (output-full out bs);
         broken = call-broken;
@@ -207,5 +207,5 @@ module _ {z : Sizes} {b : Box} {c : counts.State} {n : entries.State} (h : Holds
       }
 
 -- so it is after any calls on a box that started fresh, by the two states that the box then spells
-pub refusals-after : (a : History) → Typed a → Refusals (sizesOf a) (end a) (countersOf (end a)) (nurseryOf (end a))
+pub refusals-after : (a : History) → Typed a → Refusals (fixedOf a) (end a) (countersOf (end a)) (nurseryOf (end a))
 refusals-after a t = let h = holding a t .holds in rw (counters-state (h .counters), nursery-state (h .nursery)) (refusals h)

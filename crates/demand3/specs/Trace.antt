@@ -30,7 +30,7 @@ use Rattle.node_box.specs.Journal.{Logged, encoded, loggedOf, records, whole, l
 use Rattle.node_box.specs.Demand.{typed}
 use Rattle.demand3.specs.States.{countersAfter, nurseryAfter}
 use Rattle.demand3.specs.NurseryHeld.{roomFor, DeltaTaken, delta-taken, delta-carried}
-use Rattle.demand3.specs.Holding.{Sizes, Holds, answer-taken, DeltaTyped, delta-typed, holds-taken, refused-same}
+use Rattle.demand3.specs.Holding.{Fixed, Holds, answer-taken, DeltaTyped, delta-typed, holds-taken, refused-same}
 use Rattle.demand3.specs.Outputs.{listing-is}
 
 -- a delta that was accepted and has items, its record's id, and the box's listing after it
@@ -83,7 +83,7 @@ module _ (hash : List ℕ → List ℕ) where
     listed-none : {u : entries.State} → Listed u []
     listed-more : {u : entries.State} {t : Step} {ts : List Step} → t .after ≡ listingBytes (stateAfter (t .change) u .entries) → Listed (stateAfter (t .change) u) ts → Listed u (t ∷ ts)
 
-  pub record Traced (z : Sizes) (u : entries.State) (rs : List Logged) : Type 0 where
+  pub record Traced (z : Fixed) (u : entries.State) (rs : List Logged) : Type 0 where
     pub steps : List Step
     pub same : rs ≡ map logged steps
     pub applies : Applies hash (λ s. s .id) (λ s. s .change) (roomFor (z .entries) (z .waiting) (z .cells)) u steps
@@ -93,11 +93,11 @@ module _ (hash : List ℕ → List ℕ) where
   abbrev pub Reads : entries.State → entries.State → Type 0
   Reads n u = u .entries ≡ n .entries
 
-  module _ {z : Sizes} {b : Box} {c : counts.State} {n u : entries.State} (h : Holds z b c n) (r : Reads n u) where
+  module _ {z : Fixed} {b : Box} {c : counts.State} {n u : entries.State} (h : Holds z b c n) (r : Reads n u) where
     -- the record of an accepted delta, and those after it
     traced-delta : (id : ℕ) (wide : Bool) (inserts removes : ℕ) (items : List ℕ) (rs : List Logged)
         → let x : Call = delta id wide inserts removes items in
-        typed x ≡ true → accepted (step b x .0) ≡ true → ((v : entries.State) → Reads (nurseryAfter x n) v → Traced z v rs)
+        typed x ≡ true → accepted (step b x .0) ≡ true → ((v : entries.State) → Reads (nurseryAfter (z .settings .delay) x n) v → Traced z v rs)
         → Traced z u (loggedOf hash x (listingOf (step b x .1)) ++ rs)
     unfolding loggedOf nurseryAfter step
     traced-delta id wide inserts removes items rs t e rest = go (eqb (inserts + removes) 0) refl
@@ -117,13 +117,13 @@ module _ (hash : List ℕ → List ℕ) where
         v : entries.State
         v = stateAfter change u
 
-        next : nurseryAfter x n ≡ stateAfter change n
+        next : nurseryAfter (z .settings .delay) x n ≡ stateAfter change n
         next = rw (taken .spelled)
 
         again : Accepted (roomFor (z .entries) (z .waiting) (z .cells)) u change
         again = accepted-again (roomFor (z .entries) (z .waiting) (z .cells)) n u change r (taken .accepted)
 
-        same-after : v .entries ≡ nurseryAfter x n .entries
+        same-after : v .entries ≡ nurseryAfter (z .settings .delay) x n .entries
         same-after = entries-after change n u r ∙ sym (ap (λ (s : entries.State). s .entries) next)
 
         listing-after : listingOf (step b x .1) ≡ listingBytes (v .entries)
@@ -147,7 +147,7 @@ module _ (hash : List ℕ → List ℕ) where
 
     -- the records of an accepted call and of the calls after it
     traced-call : (x : Call) (rs : List Logged) → typed x ≡ true → accepted (step b x .0) ≡ true
-        → ((v : entries.State) → Reads (nurseryAfter x n) v → Traced z v rs) → Traced z u (loggedOf hash x (listingOf (step b x .1)) ++ rs)
+        → ((v : entries.State) → Reads (nurseryAfter (z .settings .delay) x n) v → Traced z v rs) → Traced z u (loggedOf hash x (listingOf (step b x .1)) ++ rs)
     unfolding loggedOf nurseryAfter drained
     traced-call allocate rs t e rest = rest u r
     traced-call (batch words) rs t e rest = rest u r
@@ -163,7 +163,7 @@ module _ (hash : List ℕ → List ℕ) where
     traced-call (locate key) rs t e rest = rest u r
     traced-call (listing out) rs t e rest = rest u r
 
-  pub traced : {z : Sizes} {b : Box} {c : counts.State} {n u : entries.State} (xs : List Call) → all typed xs ≡ true → Holds z b c n → Reads n u → Traced z u (records hash b xs)
+  pub traced : {z : Fixed} {b : Box} {c : counts.State} {n u : entries.State} (xs : List Call) → all typed xs ≡ true → Holds z b c n → Reads n u → Traced z u (records hash b xs)
   unfolding records all
   traced [] t h r = record { steps = []; same = refl; applies = done; listed = listed-none }
   traced {z} {b} {c} {n} {u} (x ∷ xs) t h r =
@@ -174,7 +174,7 @@ module _ (hash : List ℕ → List ℕ) where
           → Traced z u (pick ok (loggedOf hash x (listingOf (step b x .1))) [] ++ records hash (step b x .1) xs)
       go true e rest =
           traced-call h r x (records hash (step b x .1) xs) (and-left (typed x) (all typed xs) t) e
-          (λ v q. rest (countersAfter x c) (nurseryAfter x n) v (holds-taken h x (and-left (typed x) (all typed xs) t) e) q)
+          (λ v q. rest (countersAfter (z .settings .shrink) x c) (nurseryAfter (z .settings .delay) x n) v (holds-taken h x (and-left (typed x) (all typed xs) t) e) q)
       go false e rest = rest c n u (rw (refused-same b (h .nursery) x e) h) r
 
   -- ---- the whole records, and the listing after the last of them

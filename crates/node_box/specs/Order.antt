@@ -1,5 +1,5 @@
 -- A box's calls one after the other: document 01's sequence of two allocations and two batches, what the plain box makes of the
--- calls, which records a journal has, what reading in answers, and where every entry waits, fixed by evaluation. The order of each call's refusals stands in the crate that has the call.
+-- calls, which records a journal has, what reading in answers, where every entry waits, and what other settings make of a box, fixed by evaluation. The order of each call's refusals stands in the crate that has the call.
 -- Assumes nothing.
 use mathlib.Core.Path.{_≡_, refl}
 use Prim.Native.Nat.{ℕ, _*_, _^_}
@@ -13,7 +13,7 @@ use Rattle.base.specs.declared.Answer.the-variants.{Taken}
 use Rattle.counters.specs.declared.CounterTransition.{CounterTransition}
 use Rattle.cell_nursery.specs.Entries.{Entry, State}
 use Rattle.cell_nursery.specs.Items.{Delta, itemBytes}
-use Rattle.node_box.specs.Box.{Box, Call, allocate, batch, batchRecords, delta, drain, adjust, measure, locate, made, step, run, answers, snapshotOf}
+use Rattle.node_box.specs.Box.{Settings, settingsInRange, standardSettings, Box, settingsOf, Call, allocate, batch, batchRecords, delta, drain, shrink, adjust, measure, locate, made, step, run, answers, snapshotOf}
 use Rattle.node_box.specs.Plain.{Plain, Cell, freshPlain, plainStep, runPlain}
 use Rattle.node_box.specs.Journal.{Logged, loggedOf, whole, Rebuild, rebuild}
 use Rattle.node_box.specs.Demand.{typed, everyEntryWaits}
@@ -21,7 +21,7 @@ use Rattle.node_box.specs.Open.{evaluation}
 
 -- a fresh box at next index 0, with room for two counts, two entries and two cell bytes
 abbrev box : Box
-box = made 0 (zeros 4) (zeros 16) (zeros 10) (zeros 2)
+box = made standardSettings 0 (zeros 4) (zeros 16) (zeros 10) (zeros 2)
 
 -- two allocations, batch (1, 0 → 3)(0, 0 → 1), batch (1, 2 → 5)
 abbrev calls : List Call
@@ -68,11 +68,48 @@ left k = length (whole k (pair ∷ pair ∷ []))
 
 -- a box read in from a snapshot and a journal, under a hash of 32 zeros: by it 40 zeros are a whole record without a payload, a misfit
 abbrev restored : List ℕ → List ℕ → Rebuild
-restored snapshot journal = rebuild (λ bs. zeros 32) snapshot journal (zeros 4) (zeros 16) (zeros 10) (zeros 2)
+restored snapshot journal = rebuild (λ bs. zeros 32) standardSettings snapshot journal (zeros 4) (zeros 16) (zeros 10) (zeros 2)
 
 -- the hash 1, born at 5, and waiting rows of that hash
 abbrev rows : List ℕ → State
 rows rounds = record { entries = entry ∷ []; waiting = map (λ r. record { born = r; hash = 1 }) rounds }
+
+-- other settings: a delay, and a base of 10, a maximum of 35 and a good save of 7
+abbrev slow : ℕ → Settings
+slow delay = record { delay = delay; shrink = record { base = 10; max = 35; «good_save» = 7 } }
+
+abbrev slowBox : Box
+slowBox = made (slow 300) 0 (zeros 4) (zeros 16) (zeros 10) (zeros 2)
+
+-- its threshold, and one read in from its snapshot under some settings
+abbrev threshold : Box → ℕ
+threshold b = b .counters .maintenance .«min_alive_removed_before_shrink»
+
+abbrev readIn : Settings → List ℕ → List ℕ → Rebuild
+readIn g snapshot journal = rebuild (λ bs. zeros 32) g snapshot journal (zeros 4) (zeros 16) (zeros 10) (zeros 2)
+
+pub record SettingLines : Type 0 where
+  -- document 01's settings are in their ranges
+  pub standard-ranged : settingsInRange standardSettings ≡ true
+  -- each of them alone can be outside
+  delay-none : settingsInRange (slow 0) ≡ false
+  delay-most : settingsInRange (slow 10000) ≡ true
+  delay-past : settingsInRange (slow 10001) ≡ false
+  base-past : settingsInRange (record { delay = 300; shrink = record { base = 36; max = 35; «good_save» = 7 } }) ≡ false
+  -- a box has those that it was made with, and keeps them
+  made-with : settingsOf slowBox ≡ slow 300
+  kept : settingsOf (run slowBox (allocate ∷ batch (0 ∷ 0 ∷ 2 ∷ []) ∷ delta 0 false 0 1 (zeros 32) ∷ drain 300 0 ∷ shrink 0 ∷ adjust 0 ∷ [])) ≡ slow 300
+  -- its threshold starts at the base, doubles up to the maximum and goes back after a good save
+  starts : threshold slowBox ≡ 10
+  doubles : threshold (run slowBox (adjust 6 ∷ [])) ≡ 20
+  ends : threshold (run slowBox (adjust 6 ∷ adjust 6 ∷ [])) ≡ 35
+  returns : threshold (run slowBox (adjust 6 ∷ adjust 7 ∷ [])) ≡ 10
+  -- a box read in has the settings that it is given, and its threshold starts at their base
+  read-settings : settingsOf (readIn (slow 300) (snapshotOf (run slowBox (adjust 6 ∷ []))) [] .box) ≡ slow 300
+  read-threshold : threshold (readIn (slow 300) (snapshotOf (run slowBox (adjust 6 ∷ []))) [] .box) ≡ 10
+  -- 23 for a setting outside its range, before what the snapshot and the journal are refused with
+  read-delay : answerNumber (readIn (slow 0) (snapshotOf slowBox) (zeros 40) .answer) ≡ 23
+  read-base : answerNumber (readIn (record { delay = 300; shrink = record { base = 0; max = 35; «good_save» = 7 } }) [] [] .answer) ≡ 23
 
 pub record BoxLines : Type 0 where
   -- answer, next and live of the four calls
@@ -210,4 +247,25 @@ box-lines =
       waits-other-round = refl;
       waits-twice = refl;
       waits-too-many = refl;
+    }
+
+pub setting-lines : SettingLines
+unfolding evaluation
+setting-lines =
+    record {
+      standard-ranged = refl;
+      delay-none = refl;
+      delay-most = refl;
+      delay-past = refl;
+      base-past = refl;
+      made-with = refl;
+      kept = refl;
+      starts = refl;
+      doubles = refl;
+      ends = refl;
+      returns = refl;
+      read-settings = refl;
+      read-threshold = refl;
+      read-delay = refl;
+      read-base = refl;
     }

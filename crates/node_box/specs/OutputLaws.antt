@@ -24,7 +24,7 @@ use Rattle.cell_nursery.specs.declared.Nursery.{Nursery}
 use Rattle.cell_nursery.specs.Entries.{State}
 use Rattle.cell_nursery.specs.Items.{Delta, deltaOf}
 use Rattle.cell_nursery.specs.Delta.{tooLong}
-use Rattle.cell_nursery.specs.Drain.{promotionDelay, drained, drainBytes, listingBytes}
+use Rattle.cell_nursery.specs.Drain.{drained, drainBytes, listingBytes}
 use Rattle.cell_nursery.specs.Layout as nursery
 use Rattle.cell_nursery.specs.Calls as nursery-calls
 use Rattle.cell_nursery.specs.Calls.{lengthWidth, DrainedOut, drainedOut, drainCall, listingCall}
@@ -141,10 +141,10 @@ module _ (b : Box) where
   -- ---- a drain
   -- what is handed out into an output of a length, and the state after it
   abbrev handed : ℕ → ℕ → Outcome (List ℕ)
-  handed round len = fitting len (nursery-calls.onState (b .nursery) (b .entries) (b .waiting) (b .cells) (λ s. taken (drainBytes promotionDelay round s)))
+  handed round len = fitting len (nursery-calls.onState (b .nursery) (b .entries) (b .waiting) (b .cells) (λ s. taken (drainBytes (b .nursery .delay) round s)))
 
   abbrev after : ℕ → State
-  after round = drained promotionDelay round (nurseryOf b)
+  after round = drained (b .nursery .delay) round (nurseryOf b)
 
   -- of two outputs of one length: one result, one waiting table, the same bytes
   pub drain-length : (round : ℕ) (out out′ : List ℕ) → length out ≡ length out′

@@ -1,6 +1,6 @@
 -- An entry on its way through drains, fixed by evaluation.
 -- Assumes nothing.
-use mathlib.Core.Path.{_≡_, refl}
+use mathlib.Core.Path.{_≡_, refl, sym, _∙_}
 use mathlib.Core.Bool.{false, true≢false}
 use mathlib.Core.List.{List, [], _∷_, _++_}
 use Prim.Native.Nat.{ℕ, _-_, _^_}
@@ -8,16 +8,17 @@ use lib.ListN.{replicate}
 use Rattle.base.specs.Logic.{pick, zeros}
 use Rattle.base.specs.ListLaws.{here}
 use Rattle.base.specs.Answers.{answerNumber}
+use Rattle.counters.specs.Maintenance.{standard}
 use Rattle.cell_nursery.specs.Entries.{Entry}
 use Rattle.cell_nursery.specs.Items.{itemBytes}
 use Rattle.cell_nursery.specs.Drain.{promotedBytes}
-use Rattle.node_box.specs.Box.{Box, Call, delta, drain, made, drainInto, step, run}
+use Rattle.node_box.specs.Box.{standardSettings, Box, Call, delta, drain, made, drainInto, step, run}
 use Rattle.node_box.specs.Open.{evaluation}
 use Rattle.promotion.specs.Promotion.{lentDelta, roundOf, promotedBy, promotedIn, anyAccepted, withHash, promotes, Inserted}
 
 -- a fresh box with room for two entries and two cell bytes
 abbrev box : Box
-box = made 0 [] (zeros 16) (zeros 10) (zeros 2)
+box = made standardSettings 0 [] (zeros 16) (zeros 10) (zeros 2)
 
 -- an entry of the hash 1, born at a round; deltas that insert it, remove it, and do both at once
 abbrev entry : ℕ → Entry
@@ -74,6 +75,25 @@ pub record Lines : Type 0 where
   never : handed (put (2 ^ 32 - 100)) [] (2 ^ 32 - 1) ≡ []
   -- all of a list of drains together hand it out once
   together : promotedIn box (put 5 ∷ drain 99 44 ∷ drain 105 43 ∷ drain 200 44 ∷ drain 105 44 ∷ []) ≡ entry 5 ∷ []
+
+-- the same box with another delay
+abbrev waitsFor : ℕ → Box
+waitsFor delay = made (record { delay = delay; shrink = standard }) 0 [] (zeros 16) (zeros 10) (zeros 2)
+
+abbrev handedAfter : ℕ → ℕ → ℕ → List Entry
+handedAfter delay born round = promotedBy (run (waitsFor delay) (put born ∷ [])) (drain round 44)
+
+pub record DelayLines : Type 0 where
+  -- a delay of 10,000 rounds, and of one
+  long-early : handedAfter 10000 5 10004 ≡ []
+  long-due : handedAfter 10000 5 10005 ≡ entry 5 ∷ []
+  short-early : handedAfter 1 5 5 ≡ []
+  short-due : handedAfter 1 5 6 ≡ entry 5 ∷ []
+  -- with a delay of one round an entry born at the last but one is handed out, one born at the last never
+  short-last : handedAfter 1 (2 ^ 32 - 2) (2 ^ 32 - 1) ≡ entry (2 ^ 32 - 2) ∷ []
+  short-never : handedAfter 1 (2 ^ 32 - 1) (2 ^ 32 - 1) ≡ []
+
+pub record ClaimLines : Type 0 where
   -- what is claimed: of a round too early, of a drain that was refused, of one that was taken
   claim-early : withHash 1 (handed (put 5) [] 104) ≡ claimed (put 5) [] 104
   claim-refused : withHash 1 (handed (put 5) (drain 104 44 ∷ drain 105 43 ∷ []) 105) ≡ claimed (put 5) (drain 104 44 ∷ drain 105 43 ∷ []) 105
@@ -110,9 +130,32 @@ lines =
       last-round = refl;
       never = refl;
       together = refl;
-      claim-early = refl;
-      claim-refused = refl;
-      claim-again = refl;
+    }
+
+pub delay-lines : DelayLines
+unfolding evaluation lentDelta roundOf promotedBy promotedIn anyAccepted
+delay-lines = record { long-early = refl; long-due = refl; short-early = refl; short-due = refl; short-last = refl; short-never = refl }
+
+-- each side by itself
+record Sides : Type 0 where
+  early-handed : withHash 1 (handed (put 5) [] 104) ≡ []
+  early-claimed : claimed (put 5) [] 104 ≡ []
+  refused-handed : withHash 1 (handed (put 5) (drain 104 44 ∷ drain 105 43 ∷ []) 105) ≡ entry 5 ∷ []
+  refused-claimed : claimed (put 5) (drain 104 44 ∷ drain 105 43 ∷ []) 105 ≡ entry 5 ∷ []
+  again-handed : withHash 1 (handed (put 5) (drain 106 44 ∷ []) 105) ≡ []
+  again-claimed : claimed (put 5) (drain 106 44 ∷ []) 105 ≡ []
+
+sides : Sides
+unfolding evaluation lentDelta roundOf promotedBy promotedIn anyAccepted
+sides = record { early-handed = refl; early-claimed = refl; refused-handed = refl; refused-claimed = refl; again-handed = refl; again-claimed = refl }
+
+pub claim-lines : ClaimLines
+unfolding evaluation lentDelta roundOf promotedBy promotedIn anyAccepted
+claim-lines =
+    record {
+      claim-early = sides .early-handed ∙ sym (sides .early-claimed);
+      claim-refused = sides .refused-handed ∙ sym (sides .refused-claimed);
+      claim-again = sides .again-handed ∙ sym (sides .again-claimed);
       inserted = record { state = record { held = refl; words = refl }; arguments = refl; inserts = here refl; taken = refl; stays = refl };
       not-removed = λ i. true≢false (i .stays);
       not-passing = λ i. true≢false (i .stays);

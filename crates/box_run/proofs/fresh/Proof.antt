@@ -1,6 +1,7 @@
 -- `box_run::fresh`.
 -- Assumes nothing.
 use borrow.Author.Needs.{needs}
+use Rattle.counters.specs.Maintenance.{standard}
 use Rattle.box_run.specs.TextLaws.{fresh-made}
 use Rattle.box_run.proofs.fresh.Statement.{statement}
 use Rattle.box_run.proofs.fresh.Tie as tie
@@ -24,9 +25,12 @@ same-length-4 : tie.Need-same-length-4
 same-length-4 c = search needs
 
 returns : tie.Need-returns
+unfolding standard
 returns c =
-    let a = c .before .before .before .before .before .before .before .before .before .before .before .before .before .before .before .before .before .before .before .args in
-    fresh-made (c .before .before .before .before .before .before .before .before .before .before .before .before .before .new .result) (c .before .before .before .before .before .before .before .new2 .result) (a .t .now) (a .es .now) (a .ws .now) (a .cs .now) _ _ _ _ (c .before .before .before .before .before .before .before .before .before .before .before .before .before .new .ensures) (c .before .before .before .before .before .before .before .new2 .ensures)
+    let a = c .before .before .before .before .before .before .before .before .before .before .before .before .before .before .before .before .before .before .before .before .args in
+    let n = c .before .before .before .before .before .before .before .before in
+    let m = c .before .before .before .before .before .before .before .before .before .before .before .before .before .before in
+    fresh-made (m .new .result) (n .new2 .result) (a .t .now) (a .es .now) (a .ws .now) (a .cs .now) _ _ _ _ (m .new .ensures) (n .new2 .ensures)
 
 pub fresh-spec : {M : Type 1} → statement M
 fresh-spec =
