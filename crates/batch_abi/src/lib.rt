@@ -11,7 +11,7 @@ ghost use Rattle.word_calls.specs.CountersSaid.{batchSaid};
 // A batch of transitions.
 #[no_mangle]
 pub extern "C" fn selvaigo_apply_batch(
-    state: &mut [u64; 13],
+    state: &mut [u64; 16],
     counts: &mut [u64],
     batch: &[u64],
 ) -> u8
@@ -25,7 +25,7 @@ pub extern "C" fn selvaigo_apply_batch(
 // The same, where the record and the table hold a state.
 #[no_mangle]
 pub extern "C" fn selvaigo_apply_batch_held(
-    state: &mut [u64; 13],
+    state: &mut [u64; 16],
     counts: &mut [u64],
     batch: &[u64],
 ) -> u8

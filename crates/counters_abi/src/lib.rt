@@ -2,6 +2,8 @@
 // pointer and a length, an array as a pointer. A state record is lent as its words of docs/LAYOUT.md.
 use counters::Idx;
 use counters::NextIdx;
+use counters::ShrinkSettings;
+use state_steps::put_counters;
 use state_steps::put_got;
 use state_words::counters_of;
 use state_words::counters_words;
@@ -12,19 +14,32 @@ ghost use Rattle.counters.specs.Layout as layout;
 ghost use Rattle.state_words.specs.Words.{countersOf, said};
 ghost use Rattle.word_calls.specs.CountersSaid.{newSaid, allocSaid, getSaid};
 
-// Counters with nothing stored, whose next index is handed over.
+// Counters with nothing stored, whose next index is handed over, in a record and a table of any content. A refusal changes neither.
 #[no_mangle]
-pub extern "C" fn selvaigo_new(next_idx: u64, state: &mut [u64; 13], counts: &mut [u64]) -> u8
-    ensures { λ r. ⌜ said r [] (now (state .exit) ∷ now (counts .exit) ∷ []) ≡ newSaid «next_idx» (now (counts .entry)) ⌝ }
+pub extern "C" fn selvaigo_new(
+    next_idx: u64,
+    shrink_base: u64,
+    shrink_max: u64,
+    good_save: u64,
+    state: &mut [u64; 16],
+    counts: &mut [u64],
+) -> u8
+    ensures { λ r. ⌜ said r [] (now (state .exit) ∷ now (counts .exit) ∷ []) ≡ newSaid «shrink_base» «shrink_max» «good_save» «next_idx» (now (state .entry)) (now (counts .entry)) ⌝ }
 {
-    let c = counter_table::new(NextIdx(next_idx), counts);
-    *state = counters_words(c);
-    0
+    let settings = ShrinkSettings {
+        base: shrink_base,
+        max: shrink_max,
+        good_save,
+    };
+    let x = counter_table::new(NextIdx(next_idx), settings, counts);
+    let a = x.answer;
+    let c = x.counters;
+    put_counters(a, c, state)
 }
 
 // The next index, handed out.
 #[no_mangle]
-pub extern "C" fn selvaigo_alloc_idx(state: &mut [u64; 13], idx: &mut [u64; 1]) -> u8
+pub extern "C" fn selvaigo_alloc_idx(state: &mut [u64; 16], idx: &mut [u64; 1]) -> u8
     ensures { λ r. ⌜ said r (now (idx .exit) ∷ []) (now (state .exit) ∷ []) ≡ allocSaid (now (state .entry)) ⌝ }
 {
     let c = counters_of(state);
@@ -39,7 +54,7 @@ pub extern "C" fn selvaigo_alloc_idx(state: &mut [u64; 13], idx: &mut [u64; 1]) 
 // The count at an index.
 #[no_mangle]
 pub extern "C" fn selvaigo_get(
-    state: &[u64; 13],
+    state: &[u64; 16],
     counts: &[u64],
     idx: u64,
     count: &mut [u64; 1],
@@ -54,7 +69,7 @@ pub extern "C" fn selvaigo_get(
 // The same, where the record and the table hold a state.
 #[no_mangle]
 pub extern "C" fn selvaigo_get_held(
-    state: &[u64; 13],
+    state: &[u64; 16],
     counts: &[u64],
     idx: u64,
     count: &mut [u64; 1],

@@ -11,7 +11,7 @@ ghost use Rattle.word_calls.specs.NurserySaid.{drainSaid};
 // What is due for promotion at a round, written into the output.
 #[no_mangle]
 pub extern "C" fn selvaigo_drain_promotable(
-    nursery: &mut [u64; 3],
+    nursery: &mut [u64; 4],
     entries: &[u64],
     waiting: &mut [u64],
     cells: &[u8],
@@ -29,7 +29,7 @@ pub extern "C" fn selvaigo_drain_promotable(
 // The same, where the record and the tables hold a state.
 #[no_mangle]
 pub extern "C" fn selvaigo_drain_promotable_held(
-    nursery: &mut [u64; 3],
+    nursery: &mut [u64; 4],
     entries: &[u64],
     waiting: &mut [u64],
     cells: &[u8],

@@ -12,7 +12,7 @@ ghost use Rattle.word_calls.specs.NurserySaid.{idxSaid, dataSaid};
 // The index of a hash.
 #[no_mangle]
 pub extern "C" fn selvaigo_get_idx(
-    nursery: &[u64; 3],
+    nursery: &[u64; 4],
     entries: &[u64],
     hash: &[u8; 32],
     found: &mut [u64; 2],
@@ -26,7 +26,7 @@ pub extern "C" fn selvaigo_get_idx(
 // The same, where the record and the entries hold a state.
 #[no_mangle]
 pub extern "C" fn selvaigo_get_idx_held(
-    nursery: &[u64; 3],
+    nursery: &[u64; 4],
     entries: &[u64],
     hash: &[u8; 32],
     found: &mut [u64; 2],
@@ -41,7 +41,7 @@ pub extern "C" fn selvaigo_get_idx_held(
 // Where the cell of a hash lies.
 #[no_mangle]
 pub extern "C" fn selvaigo_get_data(
-    nursery: &[u64; 3],
+    nursery: &[u64; 4],
     entries: &[u64],
     cells: &[u8],
     hash: &[u8; 32],
@@ -56,7 +56,7 @@ pub extern "C" fn selvaigo_get_data(
 // The same, where the record, the entries and the cells hold a state.
 #[no_mangle]
 pub extern "C" fn selvaigo_get_data_held(
-    nursery: &[u64; 3],
+    nursery: &[u64; 4],
     entries: &[u64],
     cells: &[u8],
     hash: &[u8; 32],

@@ -11,7 +11,7 @@ ghost use Rattle.word_calls.specs.NurserySaid.{listingSaid};
 // The listing, written into the output.
 #[no_mangle]
 pub extern "C" fn selvaigo_snapshot_entries(
-    nursery: &[u64; 3],
+    nursery: &[u64; 4],
     entries: &[u64],
     cells: &[u8],
     out: &mut [u8],
@@ -26,7 +26,7 @@ pub extern "C" fn selvaigo_snapshot_entries(
 // The same, where the record, the entries and the cells hold a state.
 #[no_mangle]
 pub extern "C" fn selvaigo_snapshot_entries_held(
-    nursery: &[u64; 3],
+    nursery: &[u64; 4],
     entries: &[u64],
     cells: &[u8],
     out: &mut [u8],

@@ -4,6 +4,7 @@
 use nursery_commit::apply_commit;
 use nursery_commit::apply_commit_held;
 use state_steps::put_committed;
+use state_steps::put_nursery;
 use state_words::nursery_of;
 ghost use mathlib.Core.Path.{_≡_};
 ghost use mathlib.Core.Bool.{true};
@@ -12,24 +13,27 @@ ghost use Rattle.cell_nursery.specs.Layout.{holds};
 ghost use Rattle.state_words.specs.Words.{nurseryOf, said};
 ghost use Rattle.word_calls.specs.NurserySaid.{emptySaid, commitSaid};
 
-// An empty nursery.
+// An empty nursery with a delay, in a record and tables of any content. A refusal changes none of them.
 #[no_mangle]
 pub extern "C" fn selvaigo_nursery_new(
-    nursery: &mut [u64; 3],
+    delay: u64,
+    nursery: &mut [u64; 4],
     entries: &mut [u64],
     waiting: &mut [u64],
     cells: &mut [u8],
 ) -> u8
-    ensures { λ r. ⌜ said r [] (now (nursery .exit) ∷ now (entries .exit) ∷ now (waiting .exit) ∷ now (cells .exit) ∷ []) ≡ emptySaid (now (entries .entry)) (now (waiting .entry)) (now (cells .entry)) ⌝ }
+    ensures { λ r. ⌜ said r [] (now (nursery .exit) ∷ now (entries .exit) ∷ now (waiting .exit) ∷ now (cells .exit) ∷ []) ≡ emptySaid delay (now (nursery .entry)) (now (entries .entry)) (now (waiting .entry)) (now (cells .entry)) ⌝ }
 {
-    let x = nursery_table::new(entries, waiting, cells);
-    put_committed(x, nursery)
+    let x = nursery_table::new(delay, entries, waiting, cells);
+    let a = x.answer;
+    let n = x.nursery;
+    put_nursery(a, n, nursery)
 }
 
 // A delta.
 #[no_mangle]
 pub extern "C" fn selvaigo_apply_commit(
-    nursery: &mut [u64; 3],
+    nursery: &mut [u64; 4],
     entries: &mut [u64],
     waiting: &mut [u64],
     cells: &mut [u8],
@@ -49,7 +53,7 @@ pub extern "C" fn selvaigo_apply_commit(
 // The same, where the record and the tables hold a state.
 #[no_mangle]
 pub extern "C" fn selvaigo_apply_commit_held(
-    nursery: &mut [u64; 3],
+    nursery: &mut [u64; 4],
     entries: &mut [u64],
     waiting: &mut [u64],
     cells: &mut [u8],

@@ -1,19 +1,19 @@
 // The counters' shrinking as C functions, lent as in counters_abi; include/selvaigo.h declares them.
-use counters::CounterMaintenance;
+use counters::ShrinkSettings;
 use state_steps::put_shrunk;
 use state_words::counters_of;
 ghost use mathlib.Core.Path.{_≡_};
 ghost use mathlib.Core.Bool.{true};
 ghost use mathlib.Core.List.{[], _∷_};
 ghost use Rattle.counters.specs.Layout as layout;
-ghost use Rattle.counters.specs.Maintenance.{standard, shouldShrink, adjustShrinkThreshold};
-ghost use Rattle.state_words.specs.Words.{countersOf, said, bit};
+ghost use Rattle.counters.specs.Maintenance.{shouldShrink, adjustShrinkThreshold};
+ghost use Rattle.state_words.specs.Words.{settingsOf, countersOf, said, bit};
 ghost use Rattle.word_calls.specs.CountersSaid.{shrinkSaid};
 
 // Which sets are to be shrunk.
 #[no_mangle]
 pub extern "C" fn selvaigo_shrink_if_needed(
-    state: &mut [u64; 13],
+    state: &mut [u64; 16],
     counts: &[u64],
     bytes_saved: u64,
     shrunk: &mut [u64; 9],
@@ -28,7 +28,7 @@ pub extern "C" fn selvaigo_shrink_if_needed(
 // The same, where the record and the table hold a state.
 #[no_mangle]
 pub extern "C" fn selvaigo_shrink_if_needed_held(
-    state: &mut [u64; 13],
+    state: &mut [u64; 16],
     counts: &[u64],
     bytes_saved: u64,
     shrunk: &mut [u64; 9],
@@ -53,19 +53,21 @@ pub extern "C" fn selvaigo_should_shrink(
     shrink_rules::should_shrink(alive, removed_since_shrink, min_removed) as u8
 }
 
-// The threshold that follows a shrink which saved so many bytes. No removal count has a part in it.
+// The threshold that follows a shrink which saved so many bytes, by the settings given. No removal count has a part in it.
 #[no_mangle]
 pub extern "C" fn selvaigo_adjust_shrink_threshold(
     min_alive_removed_before_shrink: u64,
     bytes_saved: u64,
+    shrink_base: u64,
+    shrink_max: u64,
+    good_save: u64,
 ) -> u64
-    ensures { λ r. ⌜ r ≡ adjustShrinkThreshold standard «bytes_saved» «min_alive_removed_before_shrink» ⌝ }
+    ensures { λ r. ⌜ r ≡ adjustShrinkThreshold (settingsOf «shrink_base» «shrink_max» «good_save») «bytes_saved» «min_alive_removed_before_shrink» ⌝ }
 {
-    let m = CounterMaintenance {
-        alive_removed_since_shrink: 0,
-        small_removed_since_shrink: [0; 8],
-        min_alive_removed_before_shrink,
+    let settings = ShrinkSettings {
+        base: shrink_base,
+        max: shrink_max,
+        good_save,
     };
-    let after = shrink_rules::adjust_shrink_threshold(m, bytes_saved);
-    after.min_alive_removed_before_shrink
+    shrink_rules::threshold_after(settings, min_alive_removed_before_shrink, bytes_saved)
 }

@@ -11,7 +11,7 @@ ghost use Rattle.word_calls.specs.CountersSaid.{lengthSaid, serializeSaid};
 // How many bytes the snapshot takes.
 #[no_mangle]
 pub extern "C" fn selvaigo_serialized_len(
-    state: &[u64; 13],
+    state: &[u64; 16],
     counts: &[u64],
     len: &mut [u64; 1],
 ) -> u8
@@ -25,7 +25,7 @@ pub extern "C" fn selvaigo_serialized_len(
 // The same, where the record and the table hold a state.
 #[no_mangle]
 pub extern "C" fn selvaigo_serialized_len_held(
-    state: &[u64; 13],
+    state: &[u64; 16],
     counts: &[u64],
     len: &mut [u64; 1],
 ) -> u8
@@ -41,7 +41,7 @@ pub extern "C" fn selvaigo_serialized_len_held(
 // The snapshot of a state, written into the output.
 #[no_mangle]
 pub extern "C" fn selvaigo_serialize(
-    state: &[u64; 13],
+    state: &[u64; 16],
     counts: &[u64],
     out: &mut [u8],
     len: &mut [u64; 1],
@@ -56,7 +56,7 @@ pub extern "C" fn selvaigo_serialize(
 // The same, where the record and the table hold a state.
 #[no_mangle]
 pub extern "C" fn selvaigo_serialize_held(
-    state: &[u64; 13],
+    state: &[u64; 16],
     counts: &[u64],
     out: &mut [u8],
     len: &mut [u64; 1],

@@ -1,10 +1,13 @@
 // What a call gives, written as words: each step writes the values and the record, and returns the answer's number.
+use base::Answer;
 use base::Wrote;
 use cell_nursery::Committed;
 use cell_nursery::Data;
 use cell_nursery::Drained;
 use cell_nursery::Found;
+use cell_nursery::Nursery;
 use counters::Applied;
+use counters::Counters;
 use counters::Got;
 use counters::Shrunk;
 use state_words::counters_words;
@@ -12,7 +15,7 @@ use state_words::nursery_words;
 ghost use mathlib.Core.Path.{_≡_};
 ghost use mathlib.Core.List.{[], _∷_};
 ghost use Rattle.base.specs.Answers.{answerNumber};
-ghost use Rattle.state_words.specs.Words.{countersWords, nurseryWords, bit, decisions};
+ghost use Rattle.state_words.specs.Words.{countersWords, nurseryWords, wordsAfter, bit, decisions};
 
 // A count that was read is written, and its answer's number returned.
 pub fn put_got(got: Got, count: &mut [u64; 1]) -> u8
@@ -24,7 +27,7 @@ pub fn put_got(got: Got, count: &mut [u64; 1]) -> u8
 }
 
 // The record that a batch leaves is written, and its answer's number returned.
-pub fn put_applied(applied: Applied, state: &mut [u64; 13]) -> u8
+pub fn put_applied(applied: Applied, state: &mut [u64; 16]) -> u8
     ensures { λ r. ⌜ (r ≡ answerNumber (applied .answer)) × (now (state .exit) ≡ countersWords (applied .counters)) ⌝ }
 {
     let c = applied.counters;
@@ -33,8 +36,21 @@ pub fn put_applied(applied: Applied, state: &mut [u64; 13]) -> u8
     a.number()
 }
 
+// The record of counters that were made or read in is written, but beside a refusal none, and the answer's number returned.
+pub fn put_counters(a: Answer, c: Counters, state: &mut [u64; 16]) -> u8
+    ensures { λ r. ⌜ (r ≡ answerNumber a) × (now (state .exit) ≡ wordsAfter (now (state .entry)) a (countersWords c)) ⌝ }
+{
+    match a {
+        Answer::Taken => {
+            *state = counters_words(c);
+            0
+        }
+        Answer::Refused(q) => q.number(),
+    }
+}
+
 // The nine decisions and the record after them are written, and the answer's number returned.
-pub fn put_shrunk(decided: Shrunk, state: &mut [u64; 13], shrunk: &mut [u64; 9]) -> u8
+pub fn put_shrunk(decided: Shrunk, state: &mut [u64; 16], shrunk: &mut [u64; 9]) -> u8
     ensures { λ r. ⌜ (r ≡ answerNumber (decided .answer)) × (now (shrunk .exit) ≡ decisions (decided .alive) (decided .small)) × (now (state .exit) ≡ countersWords (decided .counters)) ⌝ }
 {
     let s = decided.small;
@@ -56,7 +72,7 @@ pub fn put_shrunk(decided: Shrunk, state: &mut [u64; 13], shrunk: &mut [u64; 9])
 }
 
 // The record that a call leaves is written, and its answer's number returned.
-pub fn put_committed(committed: Committed, nursery: &mut [u64; 3]) -> u8
+pub fn put_committed(committed: Committed, nursery: &mut [u64; 4]) -> u8
     ensures { λ r. ⌜ (r ≡ answerNumber (committed .answer)) × (now (nursery .exit) ≡ nurseryWords (committed .nursery)) ⌝ }
 {
     let after = committed.nursery;
@@ -65,8 +81,21 @@ pub fn put_committed(committed: Committed, nursery: &mut [u64; 3]) -> u8
     a.number()
 }
 
+// The record of a nursery that was made or read in is written, but beside a refusal none, and the answer's number returned.
+pub fn put_nursery(a: Answer, n: Nursery, nursery: &mut [u64; 4]) -> u8
+    ensures { λ r. ⌜ (r ≡ answerNumber a) × (now (nursery .exit) ≡ wordsAfter (now (nursery .entry)) a (nurseryWords n)) ⌝ }
+{
+    match a {
+        Answer::Taken => {
+            *nursery = nursery_words(n);
+            0
+        }
+        Answer::Refused(q) => q.number(),
+    }
+}
+
 // The record after draining and how many bytes were handed out are written, and the answer's number returned.
-pub fn put_drained(drained: Drained, nursery: &mut [u64; 3], len: &mut [u64; 1]) -> u8
+pub fn put_drained(drained: Drained, nursery: &mut [u64; 4], len: &mut [u64; 1]) -> u8
     ensures { λ r. ⌜ (r ≡ answerNumber (drained .answer)) × (now (len .exit) ≡ drained .len ∷ []) × (now (nursery .exit) ≡ nurseryWords (drained .nursery)) ⌝ }
 {
     *len = [drained.len as u64];

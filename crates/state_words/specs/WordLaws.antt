@@ -50,16 +50,17 @@ counters-spelled-back c e =
             «small_removed_since_shrink» = s;
             «min_alive_removed_before_shrink» = m .«min_alive_removed_before_shrink»;
           };
+      settings = c .settings;
     } in
     ap from-sets (sym (all-words 8 (m .«small_removed_since_shrink») e))
 
-pub counters-words-back : (w : List ℕ) → length w ≡ 13 → countersWords (countersOf w) ≡ w
+pub counters-words-back : (w : List ℕ) → length w ≡ 16 → countersWords (countersOf w) ≡ w
 unfolding words
-counters-words-back w e = sym (all-words 13 w e)
+counters-words-back w e = sym (all-words 16 w e)
 
 pub nursery-spelled-back : (n : Nursery) → nurseryOf (nurseryWords n) ≡ n
 nursery-spelled-back n = refl
 
-pub nursery-words-back : (w : List ℕ) → length w ≡ 3 → nurseryWords (nurseryOf w) ≡ w
+pub nursery-words-back : (w : List ℕ) → length w ≡ 4 → nurseryWords (nurseryOf w) ≡ w
 unfolding words
-nursery-words-back w e = sym (all-words 3 w e)
+nursery-words-back w e = sym (all-words 4 w e)

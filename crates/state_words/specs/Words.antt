@@ -9,10 +9,15 @@ use Rattle.base.specs.Answers.{answerNumber}
 use Rattle.base.specs.Output.{Written}
 use Rattle.base.specs.declared.Answer.{Answer}
 use Rattle.base.specs.declared.Answer.the-variants.{Taken, Refused}
+use Rattle.counters.specs.declared.ShrinkSettings.{ShrinkSettings}
 use Rattle.counters.specs.declared.Counters.{Counters}
 use Rattle.cell_nursery.specs.declared.Nursery.{Nursery}
 
--- the counters that 13 words spell
+-- the shrink settings of three numbers, in the order of a call's parameters
+abbrev pub settingsOf : ℕ → ℕ → ℕ → ShrinkSettings
+settingsOf base max save = record { base = base; max = max; «good_save» = save }
+
+-- the counters that 16 words spell
 abbrev pub countersOf : List ℕ → Counters
 countersOf w =
     record {
@@ -26,26 +31,31 @@ countersOf w =
                 getD w 4 0 ∷ getD w 5 0 ∷ getD w 6 0 ∷ getD w 7 0 ∷ getD w 8 0 ∷ getD w 9 0 ∷ getD w 10 0 ∷ getD w 11 0 ∷ [];
             «min_alive_removed_before_shrink» = getD w 12 0;
           };
+      settings = settingsOf (getD w 13 0) (getD w 14 0) (getD w 15 0);
     }
 
--- eight removal counts, and the threshold behind them
-abbrev pub setWords : List ℕ → ℕ → List ℕ
-setWords s min =
-    getD s 0 0 ∷ getD s 1 0 ∷ getD s 2 0 ∷ getD s 3 0 ∷ getD s 4 0 ∷ getD s 5 0 ∷ getD s 6 0 ∷ getD s 7 0 ∷ min ∷ []
+-- eight removal counts, and words behind them
+abbrev pub setWords : List ℕ → List ℕ → List ℕ
+setWords s ws =
+    getD s 0 0 ∷ getD s 1 0 ∷ getD s 2 0 ∷ getD s 3 0 ∷ getD s 4 0 ∷ getD s 5 0 ∷ getD s 6 0 ∷ getD s 7 0 ∷ ws
 
--- the 13 words of counters
+-- the three words of settings
+abbrev pub settingsWords : ShrinkSettings → List ℕ
+settingsWords g = g .base ∷ g .max ∷ g .«good_save» ∷ []
+
+-- the 16 words of counters
 abbrev pub countersWords : Counters → List ℕ
 countersWords c =
     c .«next_idx» .0 ∷ c .«live_cells» ∷ c .stored ∷ c .maintenance .«alive_removed_since_shrink»
-    ∷ setWords (c .maintenance .«small_removed_since_shrink») (c .maintenance .«min_alive_removed_before_shrink»)
+    ∷ setWords (c .maintenance .«small_removed_since_shrink») (c .maintenance .«min_alive_removed_before_shrink» ∷ settingsWords (c .settings))
 
--- the nursery that 3 words spell
+-- the nursery that 4 words spell
 abbrev pub nurseryOf : List ℕ → Nursery
-nurseryOf w = record { entries = getD w 0 0; waiting = getD w 1 0; «cell_bytes» = getD w 2 0 }
+nurseryOf w = record { entries = getD w 0 0; waiting = getD w 1 0; «cell_bytes» = getD w 2 0; delay = getD w 3 0 }
 
--- the 3 words of a nursery
+-- the 4 words of a nursery
 abbrev pub nurseryWords : Nursery → List ℕ
-nurseryWords n = n .entries ∷ n .waiting ∷ n .«cell_bytes» ∷ []
+nurseryWords n = n .entries ∷ n .waiting ∷ n .«cell_bytes» ∷ n .delay ∷ []
 
 -- a yes is 1, a no 0
 abbrev pub bit : Bool → ℕ

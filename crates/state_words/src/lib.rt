@@ -3,11 +3,12 @@ use cell_nursery::Nursery;
 use counters::CounterMaintenance;
 use counters::Counters;
 use counters::NextIdx;
+use counters::ShrinkSettings;
 ghost use mathlib.Core.Path.{_≡_};
 ghost use Rattle.state_words.specs.Words.{countersOf, countersWords, nurseryOf, nurseryWords};
 
-// The counters that 13 words spell.
-pub fn counters_of(w: &[u64; 13]) -> Counters
+// The counters that 16 words spell.
+pub fn counters_of(w: &[u64; 16]) -> Counters
     ensures { λ r. ⌜ r ≡ countersOf (now (w .entry)) ⌝ }
 {
     Counters {
@@ -19,15 +20,21 @@ pub fn counters_of(w: &[u64; 13]) -> Counters
             small_removed_since_shrink: [w[4], w[5], w[6], w[7], w[8], w[9], w[10], w[11]],
             min_alive_removed_before_shrink: w[12],
         },
+        settings: ShrinkSettings {
+            base: w[13],
+            max: w[14],
+            good_save: w[15],
+        },
     }
 }
 
-// The 13 words of counters.
-pub fn counters_words(c: Counters) -> [u64; 13]
+// The 16 words of counters.
+pub fn counters_words(c: Counters) -> [u64; 16]
     ensures { λ r. ⌜ r ≡ countersWords c ⌝ }
 {
     let m = c.maintenance;
     let s = m.small_removed_since_shrink;
+    let g = c.settings;
     [
         c.next_idx.0,
         c.live_cells,
@@ -42,23 +49,32 @@ pub fn counters_words(c: Counters) -> [u64; 13]
         s[6],
         s[7],
         m.min_alive_removed_before_shrink,
+        g.base,
+        g.max,
+        g.good_save,
     ]
 }
 
-// The nursery that 3 words spell.
-pub fn nursery_of(w: &[u64; 3]) -> Nursery
+// The nursery that 4 words spell.
+pub fn nursery_of(w: &[u64; 4]) -> Nursery
     ensures { λ r. ⌜ r ≡ nurseryOf (now (w .entry)) ⌝ }
 {
     Nursery {
         entries: w[0] as usize,
         waiting: w[1] as usize,
         cell_bytes: w[2] as usize,
+        delay: w[3],
     }
 }
 
-// The 3 words of a nursery.
-pub fn nursery_words(n: Nursery) -> [u64; 3]
+// The 4 words of a nursery.
+pub fn nursery_words(n: Nursery) -> [u64; 4]
     ensures { λ r. ⌜ r ≡ nurseryWords n ⌝ }
 {
-    [n.entries as u64, n.waiting as u64, n.cell_bytes as u64]
+    [
+        n.entries as u64,
+        n.waiting as u64,
+        n.cell_bytes as u64,
+        n.delay,
+    ]
 }

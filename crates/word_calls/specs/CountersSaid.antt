@@ -8,14 +8,13 @@ use Rattle.base.specs.declared.Wrote.{Wrote}
 use Rattle.counters.specs.declared.Allocated.{Allocated}
 use Rattle.counters.specs.declared.Got.{Got}
 use Rattle.counters.specs.declared.Shrunk.{Shrunk}
-use Rattle.counters.specs.Maintenance.{standard}
 use Rattle.counters.specs.Calls.{Changed, newCall, allocCall, getCall, batchCall, shrinkCall}
 use Rattle.snapshot.specs.Calls.{Loading, serializeCall, deserializeCall, loadCall, lengthCall}
-use Rattle.state_words.specs.Words.{countersOf, countersWords, decisions, Said, said, oneWord, writtenSaid, wordsAfter}
+use Rattle.state_words.specs.Words.{settingsOf, countersOf, countersWords, decisions, Said, said, oneWord, writtenSaid, wordsAfter}
 
 -- ---- what the calls under them give, in words
 
--- a new state: its record's words and its table are written
+-- a state that follows another: its record's words and its table are written
 unfoldable pub changedSaid : Changed → Said
 changedSaid x = said (answerNumber (x .result .answer)) [] (countersWords (x .result .counters) ∷ x .table ∷ [])
 
@@ -35,7 +34,7 @@ shrunkSaid x = said (answerNumber (x .answer)) (decisions (x .alive) (x .small) 
 unfoldable pub lengthFound : Wrote → Said
 lengthFound x = said (answerNumber (x .answer)) (oneWord (x .len)) []
 
--- a state that was read in: its record's words are written where it was taken, and its table
+-- a state that was made or read in: its record's words are written where it was taken, and its table
 unfoldable pub readSaid : List ℕ → Changed → Said
 readSaid w x = said (answerNumber (x .result .answer)) [] (wordsAfter w (x .result .answer) (countersWords (x .result .counters)) ∷ x .table ∷ [])
 
@@ -45,9 +44,9 @@ loadedSaid w x = said (answerNumber (x .result .answer)) (oneWord (x .result .«
 
 -- ---- the calls, where w is the record's words and t the table of counts
 
--- fresh counters at a next index, whatever the words and the table were
-unfoldable pub newSaid : ℕ → List ℕ → Said
-newSaid next t = changedSaid (newCall (standard .base) (record { 0 = next }) t)
+-- fresh counters at a next index, under the settings of three numbers, whatever the words and the table were
+unfoldable pub newSaid : ℕ → ℕ → ℕ → ℕ → List ℕ → List ℕ → Said
+newSaid base max save next w t = readSaid w (newCall (settingsOf base max save) (record { 0 = next }) t)
 
 -- the next index handed out
 unfoldable pub allocSaid : List ℕ → Said
@@ -61,9 +60,9 @@ getSaid w t i = gotSaid (getCall (countersOf w) t (record { 0 = i }))
 unfoldable pub batchSaid : List ℕ → List ℕ → List ℕ → Said
 batchSaid w t b = changedSaid (batchCall (countersOf w) t b)
 
--- maintenance, where the alive shrink saves so many bytes
+-- maintenance by the record's settings, where the alive shrink saves so many bytes
 unfoldable pub shrinkSaid : List ℕ → List ℕ → ℕ → Said
-shrinkSaid w t saved = shrunkSaid (shrinkCall standard (countersOf w) t saved)
+shrinkSaid w t saved = shrunkSaid (shrinkCall (countersOf w) t saved)
 
 -- how many bytes the snapshot takes
 unfoldable pub lengthSaid : List ℕ → List ℕ → Said
@@ -73,10 +72,10 @@ lengthSaid w t = lengthFound (lengthCall (countersOf w) t)
 unfoldable pub serializeSaid : List ℕ → List ℕ → List ℕ → Said
 serializeSaid w t out = writtenSaid (serializeCall (countersOf w) t out)
 
--- the counters of the snapshot bs, whatever the words and the table were
-unfoldable pub deserializeSaid : List ℕ → List ℕ → List ℕ → Said
-deserializeSaid bs w t = readSaid w (deserializeCall (standard .base) bs t)
+-- the counters of the snapshot bs, under the settings of three numbers, whatever the words and the table were
+unfoldable pub deserializeSaid : ℕ → ℕ → ℕ → List ℕ → List ℕ → List ℕ → Said
+deserializeSaid base max save bs w t = readSaid w (deserializeCall (settingsOf base max save) bs t)
 
 -- the same, with a live total that may be raised
-unfoldable pub loadSaid : List ℕ → List ℕ → List ℕ → Said
-loadSaid bs w t = loadedSaid w (loadCall (standard .base) bs t)
+unfoldable pub loadSaid : ℕ → ℕ → ℕ → List ℕ → List ℕ → List ℕ → Said
+loadSaid base max save bs w t = loadedSaid w (loadCall (settingsOf base max save) bs t)

@@ -8,22 +8,27 @@ use Rattle.base.specs.Bytes.{unbe}
 use Rattle.base.specs.Answers.{answerNumber}
 use Rattle.cell_nursery.specs.declared.Found.{Found}
 use Rattle.cell_nursery.specs.declared.Data.{Data}
-use Rattle.cell_nursery.specs.Drain.{promotionDelay}
 use Rattle.cell_nursery.specs.Calls.{Changed, newCall, deltaCall, DrainedOut, drainCall, lookupCall, dataCall, listingCall}
-use Rattle.state_words.specs.Words.{nurseryOf, nurseryWords, Said, said, bit, oneWord, writtenSaid}
+use Rattle.state_words.specs.Words.{nurseryOf, nurseryWords, Said, said, bit, oneWord, writtenSaid, wordsAfter}
 
 -- a flag over the C boundary: any number but 0 says yes
 abbrev pub flag : ℕ → Bool
 flag n = not (eqb n 0)
 
--- a new state: its record's words, and its tables
+-- a state that follows another: its record's words, and its tables
 unfoldable pub committedSaid : Changed → Said
 committedSaid x =
     said (answerNumber (x .result .answer)) [] (nurseryWords (x .result .nursery) ∷ x .entries ∷ x .waiting ∷ x .cells ∷ [])
 
--- an empty nursery, whatever was in the record and the tables
-unfoldable pub emptySaid : List ℕ → List ℕ → List ℕ → Said
-emptySaid es ws cs = committedSaid (newCall es ws cs)
+-- a state that was made: its record's words where it was taken, and its tables
+unfoldable pub madeSaid : List ℕ → Changed → Said
+madeSaid w x =
+    let r = x .result in
+    said (answerNumber (r .answer)) [] (wordsAfter w (r .answer) (nurseryWords (r .nursery)) ∷ x .entries ∷ x .waiting ∷ x .cells ∷ [])
+
+-- an empty nursery with a delay, whatever the words w of its record and the tables were
+unfoldable pub emptySaid : ℕ → List ℕ → List ℕ → List ℕ → List ℕ → Said
+emptySaid delay w es ws cs = madeSaid w (newCall delay es ws cs)
 
 -- a delta
 unfoldable pub commitSaid : List ℕ → List ℕ → List ℕ → List ℕ → ℕ → ℕ → ℕ → List ℕ → Said
@@ -35,9 +40,9 @@ unfoldable pub drainedSaid : DrainedOut → Said
 drainedSaid x =
     said (answerNumber (x .result .answer)) (oneWord (x .result .len)) (nurseryWords (x .result .nursery) ∷ x .waiting ∷ x .out ∷ [])
 
--- draining at a round
+-- draining at a round, by the record's delay
 unfoldable pub drainSaid : List ℕ → List ℕ → List ℕ → List ℕ → ℕ → List ℕ → Said
-drainSaid w es ws cs round out = drainedSaid (drainCall promotionDelay (nurseryOf w) es ws cs round out)
+drainSaid w es ws cs round out = drainedSaid (drainCall (nurseryOf w) es ws cs round out)
 
 -- whether a hash is there, and its index
 unfoldable pub foundSaid : Found → Said

@@ -12,13 +12,18 @@ use Rattle.cell_nursery.specs.declared.Drained.{Drained}
 use Rattle.cell_nursery.specs.declared.Found.{Found}
 use Rattle.cell_nursery.specs.declared.Data.{Data}
 use Rattle.cell_nursery.specs.Calls.{Changed, effect, DrainedOut, drainEffect}
-use Rattle.state_words.specs.Words.{nurseryWords, said, bit, writtenSaid}
-use Rattle.word_calls.specs.NurserySaid.{committedSaid, drainedSaid, foundSaid, placedSaid}
+use Rattle.state_words.specs.Words.{nurseryWords, said, bit, writtenSaid, wordsAfter}
+use Rattle.word_calls.specs.NurserySaid.{committedSaid, madeSaid, drainedSaid, foundSaid, placedSaid}
 
 pub committed-said : {x : Committed} {es ws cs v : List ℕ} {y : Changed} {r : ℕ} → effect x es ws cs ≡ y
     → (r ≡ answerNumber (x .answer)) × (v ≡ nurseryWords (x .nursery)) → said r [] (v ∷ es ∷ ws ∷ cs ∷ []) ≡ committedSaid y
 unfolding committedSaid
 committed-said e p = rw (p .0, p .1) (ap committedSaid e)
+
+pub made-said : (w : List ℕ) {x : Committed} {es ws cs v : List ℕ} {y : Changed} {r : ℕ} → effect x es ws cs ≡ y
+    → (r ≡ answerNumber (x .answer)) × (v ≡ wordsAfter w (x .answer) (nurseryWords (x .nursery))) → said r [] (v ∷ es ∷ ws ∷ cs ∷ []) ≡ madeSaid w y
+unfolding madeSaid
+made-said w e p = rw (p .0, p .1) (ap (madeSaid w) e)
 
 pub drained-said : {x : Drained} {out ws v n : List ℕ} {y : DrainedOut} {r : ℕ} → drainEffect x out ws ≡ y
     → (r ≡ answerNumber (x .answer)) × (n ≡ x .len ∷ []) × (v ≡ nurseryWords (x .nursery)) → said r (n ∷ []) (v ∷ ws ∷ out ∷ []) ≡ drainedSaid y

@@ -56,6 +56,6 @@ readInSaid v x =
     said (answerNumber (j .answer)) ((j .applied ∷ j .place ∷ answerNumber (j .ended) ∷ []) ∷ [])
     (wordsAfter v (j .answer) (nurseryWords (j .nursery)) ∷ x .entries ∷ x .waiting ∷ x .cells ∷ [])
 
--- a journal, read into an empty nursery, whatever the words v of its record and the tables were
-unfoldable pub journalSaid : List ℕ → List ℕ → List ℕ → List ℕ → List ℕ → Said
-journalSaid bs v es ws cs = readInSaid v (readCall hash bs es ws cs)
+-- a journal, read into an empty nursery with a delay, whatever the words v of its record and the tables were
+unfoldable pub journalSaid : ℕ → List ℕ → List ℕ → List ℕ → List ℕ → List ℕ → Said
+journalSaid delay bs v es ws cs = readInSaid v (readCall hash delay bs es ws cs)

@@ -3,9 +3,7 @@
 use Prim.Native.Nat.{ℕ}
 use mathlib.Core.Path.{_≡_, ap}
 use mathlib.Core.List.{List, [], _∷_}
-use Rattle.base.specs.Answers.{answerNumber, numberOf}
-use Rattle.base.specs.declared.Refusal.{Refusal}
-use Rattle.base.specs.declared.Answer.the-variants.{Taken, Refused}
+use Rattle.base.specs.Answers.{answerNumber}
 use Rattle.format.specs.declared.Encoded.{Encoded}
 use Rattle.format.specs.declared.Decoded.{Decoded}
 use Rattle.format.specs.Calls.{EncodedOut}
@@ -15,7 +13,7 @@ use Rattle.journal.specs.declared.Converted.{Converted}
 use Rattle.journal.specs.Journal.{ReadIn, effect}
 use Rattle.journal.specs.Convert as convert
 use Rattle.journal.specs.Convert.{ConvertedOut}
-use Rattle.state_words.specs.Words.{nurseryWords, said}
+use Rattle.state_words.specs.Words.{nurseryWords, said, wordsAfter}
 use Rattle.word_calls.specs.RecordSaid.{statWords, encodedSaid, decodedSaid, scannedSaid, convertedSaid, readInSaid}
 
 pub encoded-said : {x : Encoded} {t : List ℕ} {y : EncodedOut} {r : ℕ} → record { result = x; out = t } ≡ y → r ≡ answerNumber (x .answer)
@@ -37,14 +35,9 @@ pub converted-said : {x : Converted} {t u : List ℕ} {y : ConvertedOut} {r : �
 unfolding convertedSaid
 converted-said e p = rw p (ap convertedSaid e)
 
--- ---- a journal whose reading is taken, and one whose reading is refused
-module _ (v : List ℕ) {x : JournalRead} {es ws cs : List ℕ} {y : ReadIn} {n : ℕ} (e : effect x es ws cs ≡ y) (k : n ≡ answerNumber (x .ended)) where
-  pub read-taken : {u : List ℕ} → x .answer ≡ Taken → u ≡ nurseryWords (x .nursery)
-      → said 0 ((x .applied ∷ x .place ∷ n ∷ []) ∷ []) (u ∷ es ∷ ws ∷ cs ∷ []) ≡ readInSaid v y
-  unfolding readInSaid
-  read-taken a q = rw (k, q) (rw a at (ap (readInSaid v) e))
-
-  pub read-refused : {q : Refusal} {r : ℕ} → x .answer ≡ Refused q → r ≡ numberOf q
-      → said r ((x .applied ∷ x .place ∷ n ∷ []) ∷ []) (v ∷ es ∷ ws ∷ cs ∷ []) ≡ readInSaid v y
-  unfolding readInSaid
-  read-refused a p = rw (k, p) (rw a at (ap (readInSaid v) e))
+-- a journal that is read: the record's words are v where the reading is refused
+pub read-said : (v : List ℕ) {x : JournalRead} {es ws cs u : List ℕ} {y : ReadIn} {n r : ℕ} → effect x es ws cs ≡ y → n ≡ answerNumber (x .ended)
+    → (r ≡ answerNumber (x .answer)) × (u ≡ wordsAfter v (x .answer) (nurseryWords (x .nursery)))
+    → said r ((x .applied ∷ x .place ∷ n ∷ []) ∷ []) (u ∷ es ∷ ws ∷ cs ∷ []) ≡ readInSaid v y
+unfolding readInSaid
+read-said v e k p = rw (k, p .0, p .1) (ap (readInSaid v) e)

@@ -1,48 +1,46 @@
--- The promises of include/selvaigo.h for the calls on the counters and on their snapshots. Making counters is never refused. Beside a refusal
--- values are zeros, and no slice and no record is changed. And what the calls leave of a record and a table may be lent to the held forms, if
--- nothing but calls has written them.
+-- The promises of include/selvaigo.h for the calls on the counters and on their snapshots. Beside a refusal values are zeros, and no slice and
+-- no record is changed. What the calls leave of a record and a table may be lent to the held forms, if nothing but calls has written them.
+-- Making and reading are refused with 23 exactly where a setting is outside its range; what is taken has the settings given, and no other call
+-- changes them.
 -- Assumes nothing.
-use Prim.Native.Nat.{ℕ}
-use mathlib.Core.Path.{_≡_, refl, ap}
-use mathlib.Core.Bool.{true, or-true}
+use Prim.Native.Nat.{ℕ, _<_}
+use mathlib.Core.Path.{_≡_, refl, sym, ap, _∙_}
+use mathlib.Core.Logic.{_↔_, _⊎_}
+use mathlib.Core.Bool.{Bool, true, false}
 use mathlib.Core.List.{List, [], _∷_}
-use native.Mathlib.Omega.{arith}
-use lib.ListN.{length}
-use lib.Dec.{eqb}
-use Rattle.base.specs.Logic.{any, elem, zeros}
-use Rattle.base.specs.Answers.{Outcome, refused, taken, _>>=_, orRefuse, answerOf, valueOr, answerNumber, numberOf}
-use Rattle.base.specs.AnswerLaws.{Answers}
+use lib.ListN.{length, drop}
+use Rattle.base.specs.Logic.{elem, zeros}
+use Rattle.base.specs.Answers.{Outcome, refused, taken, _>>=_, orRefuse, answerOf, valueOr, answerNumber}
+use Rattle.base.specs.AnswerLaws.{not-refused}
 use Rattle.base.specs.Output.{put, fitting, written}
 use Rattle.base.specs.declared.Answer.{Answer}
 use Rattle.base.specs.declared.Answer.the-variants.{Taken, Refused}
 use Rattle.base.specs.declared.Refusal.{Refusal}
-use Rattle.base.specs.declared.Refusal.the-variants.{Spent, Unallocated, Repeated, OffTotal, FalseOld, TableFull, Version, TornSnapshot, BadBitmap, BadLarge, TierClash, Present, NurseryFull, TooLong, OutputFull, ShortRecord, FarLength, Mismatch, Misfit, Broken, Damaged, Leftover, FewCells}
+use Rattle.base.specs.declared.Refusal.the-variants.{Broken}
+use Rattle.counters.specs.declared.ShrinkSettings.{ShrinkSettings}
 use Rattle.counters.specs.declared.Counters.{Counters}
-use Rattle.counters.specs.Counts.{State, fresh, allocate, get}
+use Rattle.counters.specs.Counts.{State, allocate, get}
 use Rattle.counters.specs.Batch.{applyBatch}
-use Rattle.counters.specs.Maintenance.{standard}
-use Rattle.counters.specs.Layout.{roomOf, recordOf, holds, batchOf}
-use Rattle.counters.specs.Calls.{onState, laid, laidOut, newCall, allocated, allocCall, getCall, batchCall, decided, shrinkCall}
-use Rattle.counters.specs.CallLaws.{new-holds, alloc-holds, batch-holds, shrink-holds}
+use Rattle.counters.specs.Maintenance.{inRange}
+use Rattle.counters.specs.Layout.{roomOf, holds, batchOf}
+use Rattle.counters.specs.Calls.{Changed, onState, laid, laidOut, laidIn, newCall, allocated, allocCall, getCall, batchCall, decided, shrinkCall}
+use Rattle.counters.specs.CallLaws as calls
+use Rattle.counters.specs.CallLaws.{with-numbers, alloc-holds, batch-holds, shrink-holds}
 use Rattle.snapshot.specs.Write.{snapshotBytes}
 use Rattle.snapshot.specs.Read.{readSnapshot}
-use Rattle.snapshot.specs.Calls.{serializeCall, deserializeCall, loadCall, lengthCall}
+use Rattle.snapshot.specs.Calls.{serializeCall, deserializeCall, Loading, loadCall, lengthCall}
 use Rattle.snapshot_laws.specs.RefusalLaws.{read-numbers}
-use Rattle.snapshot_laws.specs.CallLaws.{deserialize-taken-holds}
+use Rattle.snapshot_laws.specs.CallLaws as reads
 use Rattle.snapshot_laws.specs.LoadLaws as loads
-use Rattle.snapshot_laws.specs.LoadLaws.{load-refused, load-holds}
-use Rattle.state_words.specs.Words.{countersOf, countersWords, oneWord, writtenSaid, wordsAfter, Unchanged, left}
+use Rattle.state_words.specs.Words.{settingsOf, settingsWords, countersOf, countersWords, Said, said, oneWord, writtenSaid, wordsAfter, Unchanged, left}
 use Rattle.state_words.specs.WordLaws.{counters-words-back}
 use Rattle.word_calls.specs.CountersSaid.{changedSaid, allocatedSaid, gotSaid, shrunkSaid, lengthFound, readSaid, loadedSaid, newSaid, allocSaid, getSaid, batchSaid, shrinkSaid, lengthSaid, serializeSaid, deserializeSaid, loadSaid}
+use Rattle.word_laws.specs.Numbers.{number-not-zero, setting-said, numbers-said}
 
 -- ---- refusals
 
-pub new-taken : (next : ℕ) (t : List ℕ) → newSaid next t .answer ≡ 0
-unfolding newSaid changedSaid newCall laid
-new-taken next t = refl
-
--- where the record is lent as 13 words, as its type says
-module _ (w : List ℕ) (e : length w ≡ 13) where
+-- where the record is lent as 16 words, as its type says
+module _ (w : List ℕ) (e : length w ≡ 16) where
   pub alloc-unchanged : Unchanged (oneWord 0) (w ∷ []) (allocSaid w)
   unfolding allocSaid allocatedSaid allocCall allocated
   alloc-unchanged = go (allocate (countersOf w .«next_idx» .0))
@@ -56,7 +54,7 @@ module _ (w : List ℕ) (e : length w ≡ 13) where
     unfolding batchSaid changedSaid batchCall laidOut laid
     batch-unchanged b = go (onState (countersOf w) t (λ s. orRefuse Broken (batchOf b) >>= applyBatch (roomOf t) s))
       where
-        go : (o : Outcome State) → Unchanged [] (w ∷ t ∷ []) (changedSaid (laidOut (countersOf w) t o))
+        go : (o : Outcome State) → Unchanged [] (w ∷ t ∷ []) (changedSaid (laidOut (countersOf w .settings) (countersOf w) t o))
         go (refused r) n = (refl, rw (counters-words-back w e))
         go (taken s) n = absurd (n refl)
 
@@ -64,7 +62,7 @@ module _ (w : List ℕ) (e : length w ≡ 13) where
     unfolding shrinkSaid shrunkSaid shrinkCall decided
     shrink-unchanged saved = go (onState (countersOf w) t taken)
       where
-        go : (o : Outcome State) → Unchanged (zeros 9 ∷ []) (w ∷ []) (shrunkSaid (decided standard saved (countersOf w) o))
+        go : (o : Outcome State) → Unchanged (zeros 9 ∷ []) (w ∷ []) (shrunkSaid (decided saved (countersOf w) o))
         go (refused r) n = (refl, rw (counters-words-back w e))
         go (taken s) n = absurd (n refl)
 
@@ -93,42 +91,6 @@ module _ (w t : List ℕ) where
       go (refused r) n = (refl, refl)
       go (taken bs) n = absurd (n refl)
 
-  pub deserialize-unchanged : (bs : List ℕ) → Unchanged [] (w ∷ t ∷ []) (deserializeSaid bs w t)
-  unfolding deserializeSaid readSaid deserializeCall laidOut laid
-  deserialize-unchanged bs = go (readSnapshot (standard .base) (roomOf t) bs)
-    where
-      go : (o : Outcome State) → Unchanged [] (w ∷ t ∷ []) (readSaid w (laidOut (recordOf (fresh 0 0)) t o))
-      go (refused r) n = (refl, refl)
-      go (taken s) n = absurd (n refl)
-
-  -- a snapshot is refused with one of these: reading it in never gives 20
-  pub deserialize-numbers : (bs : List ℕ) → elem (deserializeSaid bs w t .answer) (0 ∷ 8 ∷ 7 ∷ 9 ∷ 10 ∷ 11 ∷ 6 ∷ 25 ∷ []) ≡ true
-  unfolding deserializeSaid readSaid deserializeCall laidOut laid any
-  deserialize-numbers bs = go (readSnapshot (standard .base) (roomOf t) bs) refl
-    where
-      go : (o : Outcome State) → readSnapshot (standard .base) (roomOf t) bs ≡ o
-          → elem (answerNumber (laidOut (recordOf (fresh 0 0)) t o .result .answer)) (0 ∷ 8 ∷ 7 ∷ 9 ∷ 10 ∷ 11 ∷ 6 ∷ 25 ∷ []) ≡ true
-      go (refused r) e = rw (read-numbers (standard .base) (roomOf t) bs r e) (or-true (eqb (numberOf r) 0))
-      go (taken s) e = refl
-
-  -- the same of loading: beside a refusal the total is 0
-  pub load-unchanged : (bs : List ℕ) → Unchanged (oneWord 0) (w ∷ t ∷ []) (loadSaid bs w t)
-  unfolding loadSaid loadedSaid
-  load-unchanged bs n = go (loadCall (standard .base) bs t .result .answer) refl
-    where
-      go : (a : Answer) → loadCall (standard .base) bs t .result .answer ≡ a → (loadSaid bs w t .values ≡ oneWord 0) × (loadSaid bs w t .lent ≡ w ∷ t ∷ [])
-      go (Refused r) e = rw (load-refused (standard .base) bs t r e) (refl, refl)
-      go Taken e = absurd (n (ap answerNumber e))
-
-  -- and never 25
-  pub load-numbers : (bs : List ℕ) → elem (loadSaid bs w t .answer) (0 ∷ 8 ∷ 7 ∷ 9 ∷ 10 ∷ 11 ∷ 6 ∷ []) ≡ true
-  unfolding loadSaid loadedSaid any
-  load-numbers bs = go (loadCall (standard .base) bs t .result .answer) (loads.load-numbers (standard .base) bs t)
-    where
-      go : (a : Answer) → Answers (8 ∷ 7 ∷ 9 ∷ 10 ∷ 11 ∷ 6 ∷ []) a → elem (answerNumber a) (0 ∷ 8 ∷ 7 ∷ 9 ∷ 10 ∷ 11 ∷ 6 ∷ []) ≡ true
-      go Taken f = refl
-      go (Refused r) f = rw (f r refl) (or-true (eqb (numberOf r) 0))
-
 -- ---- what is left may be lent to the held forms
 
 -- what the held forms require
@@ -139,38 +101,6 @@ Held w t = holds (countersOf w) t ≡ true
 words-held : (c : Counters) (t : List ℕ) → holds c t ≡ true → Held (countersWords c) t
 unfolding holds
 words-held c t h = h
-
--- no refusal has the number 0
-pub number-not-zero : (r : Refusal) → numberOf r ≡ 0 → ⊥
-number-not-zero Spent e = omega arith
-number-not-zero Unallocated e = omega arith
-number-not-zero Repeated e = omega arith
-number-not-zero OffTotal e = omega arith
-number-not-zero FalseOld e = omega arith
-number-not-zero TableFull e = omega arith
-number-not-zero Version e = omega arith
-number-not-zero TornSnapshot e = omega arith
-number-not-zero BadBitmap e = omega arith
-number-not-zero BadLarge e = omega arith
-number-not-zero TierClash e = omega arith
-number-not-zero Present e = omega arith
-number-not-zero NurseryFull e = omega arith
-number-not-zero TooLong e = omega arith
-number-not-zero OutputFull e = omega arith
-number-not-zero ShortRecord e = omega arith
-number-not-zero FarLength e = omega arith
-number-not-zero Mismatch e = omega arith
-number-not-zero Misfit e = omega arith
-number-not-zero Broken e = omega arith
-number-not-zero Damaged e = omega arith
-number-not-zero Leftover e = omega arith
-number-not-zero FewCells e = omega arith
-
-pub new-held : (next : ℕ) (t : List ℕ) → Held (left 0 (newSaid next t)) (left 1 (newSaid next t))
-unfolding newSaid changedSaid
-new-held next t =
-    let x = newCall (standard .base) (record { 0 = next }) t in
-    words-held (x .result .counters) (x .table) (new-holds (standard .base) (record { 0 = next }) t)
 
 module _ (w t : List ℕ) where
   -- whatever the answer
@@ -187,21 +117,158 @@ module _ (w t : List ℕ) where
 
     pub shrink-held : (saved : ℕ) → Held (left 0 (shrinkSaid w t saved)) t
     unfolding shrinkSaid shrunkSaid
-    shrink-held saved = words-held (shrinkCall standard (countersOf w) t saved .counters) t (shrink-holds standard (countersOf w) t saved h)
+    shrink-held saved = words-held (shrinkCall (countersOf w) t saved .counters) t (shrink-holds (countersOf w) t saved h)
 
-  -- a state that was read or loaded
-  read-held : (a : Answer) (c : Counters) (u : List ℕ) → (a ≡ Taken → holds c u ≡ true) → answerNumber a ≡ 0 → Held (wordsAfter w a (countersWords c)) u
-  read-held Taken c u h n = words-held c u (h refl)
-  read-held (Refused r) c u h n = absurd (number-not-zero r n)
+-- ---- counters that are made, read or loaded, over the words w and the table t of any content
 
-  pub deserialize-held : (bs : List ℕ) → deserializeSaid bs w t .answer ≡ 0 → Held (left 0 (deserializeSaid bs w t)) (left 1 (deserializeSaid bs w t))
-  unfolding deserializeSaid readSaid
-  deserialize-held bs =
-      let x = deserializeCall (standard .base) bs t in
-      read-held (x .result .answer) (x .result .counters) (x .table) (deserialize-taken-holds (standard .base) bs t)
+-- the words of settings
+abbrev pub settingsIn : List ℕ → List ℕ
+settingsIn w = drop 13 w
 
-  pub load-held : (bs : List ℕ) → loadSaid bs w t .answer ≡ 0 → Held (left 0 (loadSaid bs w t)) (left 1 (loadSaid bs w t))
-  unfolding loadSaid loadedSaid
-  load-held bs =
-      let x = loadCall (standard .base) bs t in
-      read-held (x .result .answer) (x .result .counters) (x .table) (load-holds (standard .base) bs t)
+module _ (w : List ℕ) (c : Counters) where
+  -- what is taken holds a state, and has the settings that were given
+  read-held : (a : Answer) (u : List ℕ) → (a ≡ Taken → holds c u ≡ true) → answerNumber a ≡ 0 → Held (wordsAfter w a (countersWords c)) u
+  read-held Taken u h n = words-held c u (h refl)
+  read-held (Refused r) u h n = absurd (number-not-zero r n)
+
+  read-settings : (g : ShrinkSettings) (a : Answer) → (a ≡ Taken → c .settings ≡ g) → answerNumber a ≡ 0 → settingsIn (wordsAfter w a (countersWords c)) ≡ settingsWords g
+  read-settings g Taken h n = ap settingsWords (h refl)
+  read-settings g (Refused r) h n = absurd (number-not-zero r n)
+
+-- beside a refusal that leaves the table, all is as it was
+read-unchanged : (w t : List ℕ) (x : Changed) → ((r : Refusal) → x .result .answer ≡ Refused r → x .table ≡ t) → Unchanged [] (w ∷ t ∷ []) (readSaid w x)
+unfolding readSaid
+read-unchanged w t x h = go (x .result .answer) h
+  where
+    go : (a : Answer) → ((r : Refusal) → a ≡ Refused r → x .table ≡ t)
+        → Unchanged [] (w ∷ t ∷ []) (said (answerNumber a) [] (wordsAfter w a (countersWords (x .result .counters)) ∷ x .table ∷ []))
+    go Taken k n = absurd (n refl)
+    go (Refused r) k n = (refl, rw (k r refl))
+
+module _ (base max save : ℕ) (w t : List ℕ) where
+  abbrev given : ShrinkSettings
+  given = settingsOf base max save
+
+  -- ---- made
+  module _ (next : ℕ) where
+    abbrev made : Said
+    made = newSaid base max save next w t
+
+    abbrev making : Changed
+    making = newCall given (record { 0 = next }) t
+
+    -- 23 exactly where a setting is outside its range, and no other refusal
+    pub new-setting : (made .answer ≡ 23) ↔ ((base ≡ 0) ⊎ (max < base))
+    unfolding newSaid readSaid
+    new-setting = setting-said (making .result .answer) (calls.new-setting given (record { 0 = next }) t)
+
+    pub new-numbers : elem (made .answer) (0 ∷ 23 ∷ []) ≡ true
+    unfolding newSaid readSaid
+    new-numbers = numbers-said (23 ∷ []) (making .result .answer) (calls.new-numbers given (record { 0 = next }) t)
+
+    -- beside it nothing is changed
+    pub new-unchanged : Unchanged [] (w ∷ t ∷ []) made
+    unfolding newSaid laidIn laidOut
+    new-unchanged = read-unchanged w t making (λ r e. ap (λ (x : Changed). x .table) (calls.new-refused given (record { 0 = next }) t r e))
+
+    -- what is taken was in range
+    new-ranged : making .result .answer ≡ Taken → inRange given ≡ true
+    new-ranged e = go (inRange given) refl
+      where
+        go : (b : Bool) → inRange given ≡ b → b ≡ true
+        go true h = refl
+        go false h = absurd (not-refused (sym e ∙ sym (ap (λ (x : Changed). x .result .answer) (calls.new-bad given (record { 0 = next }) t h))))
+
+    pub new-held : made .answer ≡ 0 → Held (left 0 made) (left 1 made)
+    unfolding newSaid readSaid
+    new-held =
+        read-held w (making .result .counters) (making .result .answer) (making .table)
+        (λ e. calls.new-holds given (record { 0 = next }) t (new-ranged e))
+
+    pub new-settings : made .answer ≡ 0 → settingsIn (left 0 made) ≡ base ∷ max ∷ save ∷ []
+    unfolding newSaid readSaid
+    new-settings =
+        read-settings w (making .result .counters) given (making .result .answer)
+        (λ e. calls.new-settings given (record { 0 = next }) t (new-ranged e))
+
+  -- ---- read
+  module _ (bs : List ℕ) where
+    abbrev read : Said
+    read = deserializeSaid base max save bs w t
+
+    abbrev reading : Changed
+    reading = deserializeCall given bs t
+
+    -- 23 exactly where a setting is outside its range, whatever the bytes are
+    pub deserialize-setting : (read .answer ≡ 23) ↔ ((base ≡ 0) ⊎ (max < base))
+    unfolding deserializeSaid readSaid
+    deserialize-setting = setting-said (reading .result .answer) (reads.deserialize-setting given bs t)
+
+    -- a snapshot is refused with one of these: reading it in never gives 20
+    pub deserialize-numbers : elem (read .answer) (0 ∷ 23 ∷ 8 ∷ 7 ∷ 9 ∷ 10 ∷ 11 ∷ 6 ∷ 25 ∷ []) ≡ true
+    unfolding deserializeSaid readSaid
+    deserialize-numbers =
+        numbers-said (23 ∷ 8 ∷ 7 ∷ 9 ∷ 10 ∷ 11 ∷ 6 ∷ 25 ∷ []) (reading .result .answer) (λ q e.
+        with-numbers given (readSnapshot base (roomOf t) bs) (8 ∷ 7 ∷ 9 ∷ 10 ∷ 11 ∷ 6 ∷ 25 ∷ []) (read-numbers base (roomOf t) bs) q (reads.deserialize-given given bs t q .0 e))
+
+    pub deserialize-unchanged : Unchanged [] (w ∷ t ∷ []) read
+    unfolding deserializeSaid
+    deserialize-unchanged = read-unchanged w t reading (λ r e. reads.deserialize-refused given bs t r e .1)
+
+    pub deserialize-held : read .answer ≡ 0 → Held (left 0 read) (left 1 read)
+    unfolding deserializeSaid readSaid
+    deserialize-held = read-held w (reading .result .counters) (reading .result .answer) (reading .table) (reads.deserialize-taken-holds given bs t)
+
+    pub deserialize-settings : read .answer ≡ 0 → settingsIn (left 0 read) ≡ base ∷ max ∷ save ∷ []
+    unfolding deserializeSaid readSaid
+    deserialize-settings = read-settings w (reading .result .counters) given (reading .result .answer) (reads.deserialize-settings given bs t)
+
+    -- ---- the same of loading: beside a refusal the total is 0
+    abbrev loaded : Said
+    loaded = loadSaid base max save bs w t
+
+    abbrev loading : Loading
+    loading = loadCall given bs t
+
+    pub load-setting : (loaded .answer ≡ 23) ↔ ((base ≡ 0) ⊎ (max < base))
+    unfolding loadSaid loadedSaid
+    load-setting = setting-said (loading .result .answer) (loads.load-setting given bs t)
+
+    -- never 25
+    pub load-numbers : elem (loaded .answer) (0 ∷ 23 ∷ 8 ∷ 7 ∷ 9 ∷ 10 ∷ 11 ∷ 6 ∷ []) ≡ true
+    unfolding loadSaid loadedSaid
+    load-numbers = numbers-said (23 ∷ 8 ∷ 7 ∷ 9 ∷ 10 ∷ 11 ∷ 6 ∷ []) (loading .result .answer) (loads.load-numbers given bs t)
+
+    pub load-unchanged : Unchanged (oneWord 0) (w ∷ t ∷ []) loaded
+    unfolding loadSaid loadedSaid
+    load-unchanged n = go (loading .result .answer) refl
+      where
+        go : (a : Answer) → loading .result .answer ≡ a → (loaded .values ≡ oneWord 0) × (loaded .lent ≡ w ∷ t ∷ [])
+        go (Refused r) e = rw (loads.load-refused given bs t r e) (refl, refl)
+        go Taken e = absurd (n (ap answerNumber e))
+
+    pub load-held : loaded .answer ≡ 0 → Held (left 0 loaded) (left 1 loaded)
+    unfolding loadSaid loadedSaid
+    load-held = read-held w (loading .result .counters) (loading .result .answer) (loading .table) (loads.load-holds given bs t)
+
+    pub load-settings : loaded .answer ≡ 0 → settingsIn (left 0 loaded) ≡ base ∷ max ∷ save ∷ []
+    unfolding loadSaid loadedSaid
+    load-settings = read-settings w (loading .result .counters) given (loading .result .answer) (loads.load-settings given bs t)
+
+-- ---- no other call changes the settings, whatever it answers
+module _ (w : List ℕ) (e : length w ≡ 16) where
+  settings-kept : (c : Counters) → c .settings ≡ countersOf w .settings → settingsIn (countersWords c) ≡ settingsIn w
+  settings-kept c h = ap settingsWords h ∙ ap settingsIn (counters-words-back w e)
+
+  pub alloc-settings : settingsIn (left 0 (allocSaid w)) ≡ settingsIn w
+  unfolding allocSaid allocatedSaid
+  alloc-settings = settings-kept (allocCall (countersOf w) .counters) (calls.alloc-settings (countersOf w))
+
+  module _ (t : List ℕ) where
+    pub batch-settings : (b : List ℕ) → settingsIn (left 0 (batchSaid w t b)) ≡ settingsIn w
+    unfolding batchSaid changedSaid
+    batch-settings b = settings-kept (batchCall (countersOf w) t b .result .counters) (calls.batch-settings (countersOf w) t b)
+
+    pub shrink-settings : (saved : ℕ) → settingsIn (left 0 (shrinkSaid w t saved)) ≡ settingsIn w
+    unfolding shrinkSaid shrunkSaid
+    shrink-settings saved = settings-kept (shrinkCall (countersOf w) t saved .counters) (calls.shrink-settings (countersOf w) t saved)
