@@ -25,13 +25,13 @@ pub(crate) fn counts_room() -> [u64; 8201]
     [0; 8201]
 }
 
-fn alloc_idx(state: &mut [u64; 13], out: &mut [u8]) -> usize {
+fn alloc_idx(state: &mut [u64; 16], out: &mut [u8]) -> usize {
     let mut idx = [7u64; 1];
     let number = selvaigo_alloc_idx(state, &mut idx);
     put_one(out, number, &idx)
 }
 
-fn shrink(state: &mut [u64; 13], counts: &[u64], saved: u64) -> u8 {
+fn shrink(state: &mut [u64; 16], counts: &[u64], saved: u64) -> u8 {
     let mut shrunk = [7u64; 9];
     selvaigo_shrink_if_needed(state, counts, saved, &mut shrunk)
 }
@@ -56,7 +56,7 @@ fn fill(t: &mut [u64], call: &[u8], from: usize) {
     }
 }
 
-fn apply_batch(state: &mut [u64; 13], counts: &mut [u64; 8201], call: &[u8]) -> u8 {
+fn apply_batch(state: &mut [u64; 16], counts: &mut [u64; 8201], call: &[u8]) -> u8 {
     let mut room = counts_room();
     let n = call.len() / 8;
     if 8201 < n {
@@ -68,40 +68,69 @@ fn apply_batch(state: &mut [u64; 13], counts: &mut [u64; 8201], call: &[u8]) -> 
 }
 
 // The record and the table take the words of the call; its last one goes on to the end.
-fn set(state: &mut [u64; 13], counts: &mut [u64; 8201], call: &[u8]) -> u8 {
+fn set(state: &mut [u64; 16], counts: &mut [u64; 8201], call: &[u8]) -> u8 {
     fill(state, call, 0);
-    fill(counts, call, 13);
+    fill(counts, call, 16);
     0
 }
 
+// What is made or read in behind this call has its settings.
+fn set_settings(settings: &mut [u64; 3], call: &[u8]) -> u8 {
+    *settings = [word(call, 0), word(call, 8), word(call, 16)];
+    0
+}
+
+fn new(settings: &[u64; 3], state: &mut [u64; 16], counts: &mut [u64], next: u64) -> u8 {
+    let g = *settings;
+    selvaigo_new(next, g[0], g[1], g[2], state, counts)
+}
+
+fn deserialize(
+    settings: &[u64; 3],
+    state: &mut [u64; 16],
+    counts: &mut [u64],
+    snapshot: &[u8],
+) -> u8 {
+    let g = *settings;
+    selvaigo_deserialize_trusted(snapshot, g[0], g[1], g[2], state, counts)
+}
+
 fn load_snapshot(
-    state: &mut [u64; 13],
+    settings: &[u64; 3],
+    state: &mut [u64; 16],
     counts: &mut [u64; 8201],
     snapshot: &[u8],
     out: &mut [u8],
 ) -> usize {
     let mut old_total = [7u64; 1];
-    let number = selvaigo_load_snapshot(snapshot, state, counts, &mut old_total);
+    let g = *settings;
+    let number = selvaigo_load_snapshot(snapshot, g[0], g[1], g[2], state, counts, &mut old_total);
     put_one(out, number, &old_total)
 }
 
 // Calls that may change the table, and give a number alone.
-fn change(kind: u8, state: &mut [u64; 13], counts: &mut [u64; 8201], call: &[u8]) -> u8 {
+fn change(
+    kind: u8,
+    settings: &[u64; 3],
+    state: &mut [u64; 16],
+    counts: &mut [u64; 8201],
+    call: &[u8],
+) -> u8 {
     match kind {
-        1 => selvaigo_new(word(call, 0), state, counts),
+        1 => new(settings, state, counts, word(call, 0)),
         2 => apply_batch(state, counts, call),
-        3 => selvaigo_deserialize_trusted(call, state, counts),
+        3 => deserialize(settings, state, counts, call),
         _ => set(state, counts, call),
     }
 }
 
-fn get(state: &[u64; 13], counts: &[u64], idx: u64, out: &mut [u8]) -> usize {
+fn get(state: &[u64; 16], counts: &[u64], idx: u64, out: &mut [u8]) -> usize {
     let mut count = [7u64; 1];
     let number = selvaigo_get(state, counts, idx, &mut count);
     put_one(out, number, &count)
 }
 
-fn serialize(state: &[u64; 13], counts: &[u64], out: &mut [u8]) -> usize {
+fn serialize(state: &[u64; 16], counts: &[u64], out: &mut [u8]) -> usize {
     if out.len() < 9 {
         return NONE;
     }
@@ -111,7 +140,7 @@ fn serialize(state: &[u64; 13], counts: &[u64], out: &mut [u8]) -> usize {
     out.len()
 }
 
-fn serialized_len(state: &[u64; 13], counts: &[u64], out: &mut [u8]) -> usize {
+fn serialized_len(state: &[u64; 16], counts: &[u64], out: &mut [u8]) -> usize {
     let mut len = [7u64; 1];
     let number = selvaigo_serialized_len(state, counts, &mut len);
     put_one(out, number, &len)
@@ -132,14 +161,14 @@ fn told(t: &[u64]) -> usize
 }
 
 // The record and the table, as `set` takes them.
-fn look(state: &[u64; 13], counts: &[u64], out: &mut [u8]) -> usize {
+fn look(state: &[u64; 16], counts: &[u64], out: &mut [u8]) -> usize {
     let n = told(counts);
     let at = put(out, 0, state);
     put_words(out, at, &counts[0..n])
 }
 
 // Calls that change nothing.
-fn read(kind: u8, state: &[u64; 13], counts: &[u64], call: &[u8], out: &mut [u8]) -> usize {
+fn read(kind: u8, state: &[u64; 16], counts: &[u64], call: &[u8], out: &mut [u8]) -> usize {
     match kind {
         7 => get(state, counts, word(call, 0), out),
         8 => serialize(state, counts, out),
@@ -152,16 +181,18 @@ fn read(kind: u8, state: &[u64; 13], counts: &[u64], call: &[u8], out: &mut [u8]
 
 pub(crate) fn answer(
     kind: u8,
-    state: &mut [u64; 13],
+    settings: &mut [u64; 3],
+    state: &mut [u64; 16],
     counts: &mut [u64; 8201],
     call: &[u8],
     out: &mut [u8],
 ) -> usize {
     match kind {
-        1..=4 => put_byte(out, 0, change(kind, state, counts, call)),
+        1..=4 => put_byte(out, 0, change(kind, settings, state, counts, call)),
         5 => alloc_idx(state, out),
         6 => put_byte(out, 0, shrink(state, counts, word(call, 0))),
-        12 => load_snapshot(state, counts, call, out),
+        12 => load_snapshot(settings, state, counts, call, out),
+        13 => put_byte(out, 0, set_settings(settings, call)),
         _ => read(kind, state, counts, call, out),
     }
 }

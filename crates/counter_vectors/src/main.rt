@@ -2,9 +2,9 @@
 //
 // | kind | call | answer |
 // |---|---|---|
-// | 01 | new counters: next index | number |
+// | 01 | new counters, under the settings of 0d: next index | number |
 // | 02 | batch: index, old, new of each | number |
-// | 03 | snapshot to read | number |
+// | 03 | snapshot to read, under the settings of 0d | number |
 // | 04 | the counters' record, then the table's words; the last goes on to the end | 0 |
 // | 05 | allocation | number, index |
 // | 06 | shrinking: bytes saved | number |
@@ -13,7 +13,8 @@
 // | 09 | | 0, record and table, as 04 takes them |
 // | 0a | | 0, the counters' record |
 // | 0b | length of the snapshot | number, length |
-// | 0c | snapshot to load | number, live total that it has |
+// | 0c | snapshot to load, under the settings of 0d | number, live total that it has |
+// | 0d | settings of the calls behind it: base, maximum, good save; the standard ones before it | 0 |
 mod calls;
 
 use call_lists::answers::NONE;
@@ -30,26 +31,39 @@ use call_lists::tally::report;
 use calls::counts_room;
 
 // The answer to a call, which a text spells; its length.
-fn answer(text: &[u8], state: &mut [u64; 13], counts: &mut [u64; 8201], out: &mut [u8]) -> usize {
+fn answer(
+    text: &[u8],
+    settings: &mut [u64; 3],
+    state: &mut [u64; 16],
+    counts: &mut [u64; 8201],
+    out: &mut [u8],
+) -> usize {
     let mut call = room();
     let n = decode(text, &mut call);
     if n < 1 {
         return NONE;
     }
-    calls::answer(call[0], state, counts, &call[1..n], out)
+    calls::answer(call[0], settings, state, counts, &call[1..n], out)
 }
 
 // Whether a call is answered as wanted. No answer has no bytes.
-fn agrees(call: &[u8], wanted: &[u8], state: &mut [u64; 13], counts: &mut [u64; 8201]) -> bool {
+fn agrees(
+    call: &[u8],
+    wanted: &[u8],
+    settings: &mut [u64; 3],
+    state: &mut [u64; 16],
+    counts: &mut [u64; 8201],
+) -> bool {
     let mut room = room();
     let n = spelled(wanted);
     let out = &mut room[0..n];
-    answer(call, state, counts, out) == n && spells(wanted, out)
+    answer(call, settings, state, counts, out) == n && spells(wanted, out)
 }
 
 // The steps of a list, one after the other on one record and table.
 fn replay(name: &[u8], s: &[u8]) {
-    let mut state = [0u64; 13];
+    let mut settings = [131072u64, 2097152, 1048576];
+    let mut state = [0u64; 16];
     let mut counts = counts_room();
     let mut t = Tally { steps: 0, good: 0 };
     let mut at = 0;
@@ -59,7 +73,13 @@ fn replay(name: &[u8], s: &[u8]) {
         let wanted = p.wanted;
         let last = p.last;
         if at < end {
-            let good = agrees(&s[at..end], &s[wanted..last], &mut state, &mut counts);
+            let good = agrees(
+                &s[at..end],
+                &s[wanted..last],
+                &mut settings,
+                &mut state,
+                &mut counts,
+            );
             t = counted(t, good, name);
         }
         at = p.next;
@@ -79,4 +99,5 @@ fn main() {
     list(b"snapshots");
     list(b"edges");
     list(b"cells");
+    list(b"settings");
 }

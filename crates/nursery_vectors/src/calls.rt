@@ -19,7 +19,7 @@ use record_abi::selvaigo_scan_journal;
 
 // The call has the numbers of inserts and removes, and the items.
 fn apply_commit(
-    nursery: &mut [u64; 3],
+    nursery: &mut [u64; 4],
     entries: &mut [u64; 256],
     waiting: &mut [u64; 160],
     cells: &mut [u8; 2048],
@@ -46,7 +46,8 @@ fn apply_commit(
 }
 
 fn read_journal(
-    nursery: &mut [u64; 3],
+    delay: u64,
+    nursery: &mut [u64; 4],
     entries: &mut [u64; 256],
     waiting: &mut [u64; 160],
     cells: &mut [u8; 2048],
@@ -54,7 +55,7 @@ fn read_journal(
     out: &mut [u8],
 ) -> usize {
     let mut read = [7u64; 3];
-    let number = selvaigo_read_journal(call, nursery, entries, waiting, cells, &mut read);
+    let number = selvaigo_read_journal(call, delay, nursery, entries, waiting, cells, &mut read);
     put_three(out, number, &read)
 }
 
@@ -65,7 +66,7 @@ fn scan_journal(call: &[u8], out: &mut [u8]) -> usize {
 }
 
 fn drain(
-    nursery: &mut [u64; 3],
+    nursery: &mut [u64; 4],
     entries: &[u64],
     waiting: &mut [u64; 160],
     cells: &[u8],
@@ -92,7 +93,7 @@ fn key(call: &[u8]) -> [u8; 32] {
     hash
 }
 
-fn get_idx(nursery: &[u64; 3], entries: &[u64], call: &[u8], out: &mut [u8]) -> usize {
+fn get_idx(nursery: &[u64; 4], entries: &[u64], call: &[u8], out: &mut [u8]) -> usize {
     let hash = key(call);
     let mut found = [7u64; 2];
     let number = selvaigo_get_idx(nursery, entries, &hash, &mut found);
@@ -112,7 +113,7 @@ fn put_cell(out: &mut [u8], cells: &[u8], place: u64, len: u64) -> usize {
 }
 
 fn get_data(
-    nursery: &[u64; 3],
+    nursery: &[u64; 4],
     entries: &[u64],
     cells: &[u8],
     call: &[u8],
@@ -125,7 +126,7 @@ fn get_data(
     put_cell(out, cells, found[1], found[2])
 }
 
-fn listing(nursery: &[u64; 3], entries: &[u64], cells: &[u8], out: &mut [u8]) -> usize {
+fn listing(nursery: &[u64; 4], entries: &[u64], cells: &[u8], out: &mut [u8]) -> usize {
     if out.len() < 9 {
         return NONE;
     }
@@ -136,7 +137,7 @@ fn listing(nursery: &[u64; 3], entries: &[u64], cells: &[u8], out: &mut [u8]) ->
 }
 
 // How many entries there are, and how many bytes their cells have.
-fn totals(nursery: &[u64; 3], out: &mut [u8]) -> usize {
+fn totals(nursery: &[u64; 4], out: &mut [u8]) -> usize {
     put(out, 0, &[nursery[0], nursery[2]])
 }
 
@@ -150,10 +151,16 @@ fn set_word(t: &mut [u64], call: &[u8]) -> u8 {
     0
 }
 
+// What is made or read in behind this call has its delay.
+fn set_delay(delay: &mut [u64; 1], call: &[u8]) -> u8 {
+    *delay = [word(call, 0)];
+    0
+}
+
 // A word of a table takes another value: of the record (0), of the entries (1) or of the waiting rows (2).
 fn set(
     table: u64,
-    nursery: &mut [u64; 3],
+    nursery: &mut [u64; 4],
     entries: &mut [u64; 256],
     waiting: &mut [u64; 160],
     call: &[u8],
@@ -169,7 +176,7 @@ fn set(
 // Calls that change nothing.
 fn read(
     kind: u8,
-    nursery: &[u64; 3],
+    nursery: &[u64; 4],
     entries: &[u64],
     cells: &[u8],
     call: &[u8],
@@ -180,6 +187,7 @@ fn read(
         20 => get_data(nursery, entries, cells, call, out),
         21 => listing(nursery, entries, cells, out),
         22 => totals(nursery, out),
+        27 => put(out, 0, nursery),
         25 => scan_journal(call, out),
         _ => NONE,
     }
@@ -187,7 +195,8 @@ fn read(
 
 pub(crate) fn answer(
     kind: u8,
-    nursery: &mut [u64; 3],
+    delay: &mut [u64; 1],
+    nursery: &mut [u64; 4],
     entries: &mut [u64; 256],
     waiting: &mut [u64; 160],
     cells: &mut [u8; 2048],
@@ -196,14 +205,15 @@ pub(crate) fn answer(
 ) -> usize {
     match kind {
         16 => apply_commit(nursery, entries, waiting, cells, call, out),
-        17 => read_journal(nursery, entries, waiting, cells, call, out),
+        17 => read_journal(delay[0], nursery, entries, waiting, cells, call, out),
         18 => drain(nursery, entries, waiting, cells, word(call, 0), out),
         23 => put_byte(
             out,
             0,
-            selvaigo_nursery_new(nursery, entries, waiting, cells),
+            selvaigo_nursery_new(delay[0], nursery, entries, waiting, cells),
         ),
         24 => put_byte(out, 0, set(word(call, 0), nursery, entries, waiting, call)),
+        26 => put_byte(out, 0, set_delay(delay, call)),
         _ => read(kind, nursery, entries, cells, call, out),
     }
 }

@@ -136,7 +136,13 @@ fn should_shrink(call: &[u8], out: &mut [u8]) -> usize {
 }
 
 fn adjust(call: &[u8], out: &mut [u8]) -> usize {
-    let after = selvaigo_adjust_shrink_threshold(word(call, 0), word(call, 8));
+    let after = selvaigo_adjust_shrink_threshold(
+        word(call, 0),
+        word(call, 8),
+        word(call, 16),
+        word(call, 24),
+        word(call, 32),
+    );
     put_words(out, 0, &[after])
 }
 

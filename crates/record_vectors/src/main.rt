@@ -8,7 +8,7 @@
 // | 23 | record to read | number, eight figures, hash |
 // | 24 | record to read and write again | the same, and whether it is written as it was (a byte) |
 // | 25 | alive, removed, minimum | whether to shrink |
-// | 26 | threshold, bytes saved | the threshold after it (a word) |
+// | 26 | threshold, bytes saved, base, maximum, good save | the threshold after it (a word) |
 // | 27 | journal to convert: the length of the output for the list of what is dropped, journal | number, the two lengths, the list's output, the new journal's output |
 // | 30 | bytes | 0 where they are no bitmap; else 1, then first, step and number of its members' rows |
 // | 31 | place and two bytes to change, name of a file | the same of the file |

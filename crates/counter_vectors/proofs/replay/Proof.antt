@@ -7,10 +7,10 @@ use Rattle.counter_vectors.proofs.replay.Statement.{statement}
 use Rattle.counter_vectors.proofs.replay.Tie as tie
 
 abbrev Inv-loop : tie.InvT-loop
-Inv-loop name s state₀ counts₀ t₀ at₀ state counts t at = at ≤ length s
+Inv-loop name s settings₀ state₀ counts₀ t₀ at₀ settings state counts t at = at ≤ length s
 
 abbrev μ-loop : tie.MeasureT-loop
-μ-loop name s state₀ counts₀ t₀ at₀ state counts t at = length s - at
+μ-loop name s settings₀ state₀ counts₀ t₀ at₀ settings state counts t at = length s - at
 
 pub replay-spec : {M : Type 1} → statement M
 replay-spec =

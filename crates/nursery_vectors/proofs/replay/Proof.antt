@@ -7,10 +7,10 @@ use Rattle.nursery_vectors.proofs.replay.Statement.{statement}
 use Rattle.nursery_vectors.proofs.replay.Tie as tie
 
 abbrev Inv-loop : tie.InvT-loop
-Inv-loop name s nursery₀ entries₀ waiting₀ cells₀ t₀ at₀ nursery entries waiting cells t at = at ≤ length s
+Inv-loop name s delay₀ nursery₀ entries₀ waiting₀ cells₀ t₀ at₀ delay nursery entries waiting cells t at = at ≤ length s
 
 abbrev μ-loop : tie.MeasureT-loop
-μ-loop name s nursery₀ entries₀ waiting₀ cells₀ t₀ at₀ nursery entries waiting cells t at = length s - at
+μ-loop name s delay₀ nursery₀ entries₀ waiting₀ cells₀ t₀ at₀ delay nursery entries waiting cells t at = length s - at
 
 pub replay-spec : {M : Type 1} → statement M
 replay-spec =
