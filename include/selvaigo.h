@@ -7,8 +7,8 @@
  * given. No call keeps a pointer, allocates, or takes a lock, and every call ends.
  *
  * Every call but three returns an answer: 0 where it was taken, else the number of its refusal (SELVAIGO_...). Beside a refusal
- * values are zeros, and no record and no slice is changed. Output beyond an answer isn't touched. Making counters or a nursery
- * and scanning a journal are never refused.
+ * values are zeros, and no record and no slice is changed. Output beyond an answer isn't touched. Scanning a journal is never
+ * refused.
  *
  * A box is two state records and four tables, which the caller owns and lends to each call in the size and with the content that
  * the call before left. docs/LAYOUT.md has them word by word.
@@ -22,10 +22,21 @@
  *
  * A state of the counters never has more stored counts than its live total.
  *
- * A record and tables that hold no state in that layout are SELVAIGO_BROKEN, before all else. The check is a pass over the tables
- * that the call is lent, and a look-up in the entries for each waiting row; allocation is lent no table and checks nothing. A caller
- * that lets nothing but these calls write its records and tables may use the forms named .._held, which don't test it. Over a record
- * and tables that hold no state these promise nothing, not even to stay within them. */
+ * A box has four settings. They are given where it is made or read in, stand in its records from then on, and no call changes them.
+ *
+ *   delay        nursery[3]  1 to 10,000      how many rounds a cell waits for its promotion
+ *   shrink_base  state[13]   1 to shrink_max  the alive threshold of maintenance at the start, and after a good save
+ *   shrink_max   state[14]   any              the most that it is doubled to
+ *   good_save    state[15]   any              the least bytes saved that are a good save
+ *
+ * Making and reading in with one outside its range are refused with SELVAIGO_BAD_SETTING, before anything else. The standard ones
+ * are named SELVAIGO_STANDARD_...; no call takes them by itself.
+ *
+ * A record and tables that hold no state in that layout are SELVAIGO_BROKEN, before all else; so is a record with a setting outside
+ * its range. The check is a pass over the tables that the call is lent, and a look-up in the entries for each waiting row;
+ * allocation is lent no table and checks nothing. A caller that lets nothing but these calls write its records and tables may use
+ * the forms named .._held, which don't test it. Over a record and tables that hold no state these promise nothing, not even to stay
+ * within them. */
 #ifndef SELVAIGO_H
 #define SELVAIGO_H
 
@@ -37,8 +48,16 @@ extern "C" {
 #endif
 
 enum {
-    SELVAIGO_STATE = 13,
-    SELVAIGO_NURSERY = 3
+    SELVAIGO_STATE = 16,
+    SELVAIGO_NURSERY = 4
+};
+
+/* The standard settings. */
+enum {
+    SELVAIGO_STANDARD_DELAY = 100,
+    SELVAIGO_STANDARD_SHRINK_BASE = 131072,
+    SELVAIGO_STANDARD_SHRINK_MAX = 2097152,
+    SELVAIGO_STANDARD_GOOD_SAVE = 1048576
 };
 
 /* Answers. */
@@ -66,14 +85,17 @@ enum {
     SELVAIGO_BROKEN = 20,        /* what is lent isn't in the layout */
     SELVAIGO_DAMAGED = 21,       /* a record of a journal is refused with another number than 16 */
     SELVAIGO_LEFTOVER = 22,      /* bytes of a record's payload are left over after its last item */
-    /* No call answers 23 or 24. */
+    SELVAIGO_BAD_SETTING = 23,   /* a setting that a box is made or read in with is outside its range */
+    /* No call answers 24. */
     SELVAIGO_FEW_CELLS = 25      /* fewer cells than counts: stored counts after the call exceed the live total */
 };
 
 /* ---- Counters ---- */
 
-/* Counters with nothing stored, whose next index is handed over: writes state and counts, whatever was in them. Always taken. */
-uint8_t selvaigo_new(uint64_t next_idx, uint64_t state[SELVAIGO_STATE], uint64_t *counts, size_t counts_len);
+/* Counters with nothing stored, whose next index is handed over: writes state and counts, whatever was in them. The alive threshold is
+ * shrink_base. The only refusal is SELVAIGO_BAD_SETTING; it changes neither. */
+uint8_t selvaigo_new(uint64_t next_idx, uint64_t shrink_base, uint64_t shrink_max, uint64_t good_save,
+                     uint64_t state[SELVAIGO_STATE], uint64_t *counts, size_t counts_len);
 
 /* The next index, handed out: writes state, and idx[0]. */
 uint8_t selvaigo_alloc_idx(uint64_t state[SELVAIGO_STATE], uint64_t idx[1]);
@@ -93,15 +115,18 @@ uint8_t selvaigo_apply_batch_held(uint64_t state[SELVAIGO_STATE], uint64_t *coun
                                   size_t batch_len);
 
 /* Maintenance: which of the sets are to be shrunk, given the bytes that shrinking the set of all stored indices saves. Writes
- * state, and shrunk[0] for that set and shrunk[1] to shrunk[8] for the eight sets of small counts: 1 yes, 0 no. */
+ * state, and shrunk[0] for that set and shrunk[1] to shrunk[8] for the eight sets of small counts: 1 yes, 0 no. A yes sets the set's
+ * removals to 0, and that of shrunk[0] also the alive threshold anew, by the settings of the record. */
 uint8_t selvaigo_shrink_if_needed(uint64_t state[SELVAIGO_STATE], const uint64_t *counts, size_t counts_len,
                                   uint64_t bytes_saved, uint64_t shrunk[9]);
 uint8_t selvaigo_shrink_if_needed_held(uint64_t state[SELVAIGO_STATE], const uint64_t *counts, size_t counts_len,
                                        uint64_t bytes_saved, uint64_t shrunk[9]);
 
-/* The rule of it alone, 1 yes, 0 no; and the threshold that follows a yes. These two and the hash refuse nothing. */
+/* The rule of it alone, 1 yes, 0 no; and the threshold that follows a yes: shrink_base where bytes_saved is good_save or more, else twice
+ * the threshold, or shrink_max if that is less. These two and the hash refuse nothing, whatever the numbers are. */
 uint8_t selvaigo_should_shrink(uint64_t alive, uint64_t removed_since_shrink, uint64_t min_removed);
-uint64_t selvaigo_adjust_shrink_threshold(uint64_t min_alive_removed_before_shrink, uint64_t bytes_saved);
+uint64_t selvaigo_adjust_shrink_threshold(uint64_t min_alive_removed_before_shrink, uint64_t bytes_saved, uint64_t shrink_base,
+                                          uint64_t shrink_max, uint64_t good_save);
 
 /* ---- Snapshots of the counters ---- */
 
@@ -117,23 +142,27 @@ uint8_t selvaigo_serialize(const uint64_t state[SELVAIGO_STATE], const uint64_t 
 uint8_t selvaigo_serialize_held(const uint64_t state[SELVAIGO_STATE], const uint64_t *counts, size_t counts_len, uint8_t *out,
                                 size_t out_len, uint64_t len[1]);
 
-/* The counters that a snapshot holds: writes state and counts, whatever was in them. A refusal changes neither. The last one, after 7 to
- * 11 and 6, is SELVAIGO_FEW_CELLS: the snapshot has more counts than its live total. */
-uint8_t selvaigo_deserialize_trusted(const uint8_t *snapshot, size_t snapshot_len, uint64_t state[SELVAIGO_STATE],
-                                     uint64_t *counts, size_t counts_len);
+/* The counters that a snapshot holds, with settings, of which it has none: writes state and counts, whatever was in them. The alive
+ * threshold is shrink_base, and removals are 0. A refusal changes neither. The first one, whatever the snapshot is, is
+ * SELVAIGO_BAD_SETTING. The last one, after 7 to 11 and 6, is SELVAIGO_FEW_CELLS: the snapshot has more counts than its live total. */
+uint8_t selvaigo_deserialize_trusted(const uint8_t *snapshot, size_t snapshot_len, uint64_t shrink_base, uint64_t shrink_max,
+                                     uint64_t good_save, uint64_t state[SELVAIGO_STATE], uint64_t *counts, size_t counts_len);
 
 /* The same for a snapshot of the time when counts were not held against the live total: it is refused with all that reading is refused
  * with but SELVAIGO_FEW_CELLS; instead a live total below the number of counts, each index counted once, is raised to that number.
  * Writes state and counts, whatever was in them, and old_total[0]: the live total that the snapshot has, 0 beside a refusal. Where it
- * equals state[1], nothing was raised, and reading gives the same. The snapshot of what was loaded is read by the call above. */
-uint8_t selvaigo_load_snapshot(const uint8_t *snapshot, size_t snapshot_len, uint64_t state[SELVAIGO_STATE], uint64_t *counts,
-                               size_t counts_len, uint64_t old_total[1]);
+ * equals state[1], nothing was raised, and reading with the same settings gives the same. The snapshot of what was loaded is read by the
+ * call above. */
+uint8_t selvaigo_load_snapshot(const uint8_t *snapshot, size_t snapshot_len, uint64_t shrink_base, uint64_t shrink_max,
+                               uint64_t good_save, uint64_t state[SELVAIGO_STATE], uint64_t *counts, size_t counts_len,
+                               uint64_t old_total[1]);
 
 /* ---- Nursery ---- */
 
-/* An empty nursery: writes nursery, entries, waiting and cells, whatever was in them. Always taken. */
-uint8_t selvaigo_nursery_new(uint64_t nursery[SELVAIGO_NURSERY], uint64_t *entries, size_t entries_len, uint64_t *waiting,
-                             size_t waiting_len, uint8_t *cells, size_t cells_len);
+/* An empty nursery with a delay: writes nursery, entries, waiting and cells, whatever was in them. The only refusal is
+ * SELVAIGO_BAD_SETTING; it changes none of them. */
+uint8_t selvaigo_nursery_new(uint64_t delay, uint64_t nursery[SELVAIGO_NURSERY], uint64_t *entries, size_t entries_len,
+                             uint64_t *waiting, size_t waiting_len, uint8_t *cells, size_t cells_len);
 
 /* A delta: as many inserts as stated (hash 32, index u64, born round u32, cell length u16, cell), then as many removes
  * (hash 32), end to end, little-endian; where wide isn't 0 a cell length is a u32. Items that run past their bytes are SELVAIGO_BROKEN; bytes
@@ -145,8 +174,9 @@ uint8_t selvaigo_apply_commit_held(uint64_t nursery[SELVAIGO_NURSERY], uint64_t 
                                    size_t waiting_len, uint8_t *cells, size_t cells_len, uint8_t wide, uint64_t inserts,
                                    uint64_t removes, const uint8_t *items, size_t items_len);
 
-/* The waiting entries born at or before round - 100, by born round, then arrival; they stay as entries and wait no longer. Writes
- * nursery, waiting, len[0], and the first len[0] bytes of out: for each hash 32, index u64, cell length u16, cell. */
+/* The waiting entries born at or before round - delay, the record's, by born round, then arrival; none where round is below it. They
+ * stay as entries and wait no longer. Writes nursery, waiting, len[0], and the first len[0] bytes of out: for each hash 32, index u64,
+ * cell length u16, cell. */
 uint8_t selvaigo_drain_promotable(uint64_t nursery[SELVAIGO_NURSERY], const uint64_t *entries, size_t entries_len,
                                   uint64_t *waiting, size_t waiting_len, const uint8_t *cells, size_t cells_len, uint32_t round,
                                   uint8_t *out, size_t out_len, uint64_t len[1]);
@@ -193,13 +223,14 @@ uint8_t selvaigo_decode_record(const uint8_t *bytes, size_t bytes_len, uint64_t 
  * damage, SELVAIGO_LEFTOVER among them: reading the journal is refused. Always taken. */
 uint8_t selvaigo_scan_journal(const uint8_t *journal, size_t journal_len, uint64_t scan[3]);
 
-/* A journal, read into an empty nursery: writes nursery, entries, waiting and cells, whatever was in them, and read: records
- * applied, the place after the last of them, and the number that ended it: 0 at the journal's end, 16 where the record there is cut, 12 or
- * 13 where its delta is refused, and no other; what was applied stays. The only refusal is SELVAIGO_DAMAGED, where the scan above finds
- * damage, also behind a delta that would be refused; it comes before any delta is applied. */
-uint8_t selvaigo_read_journal(const uint8_t *journal, size_t journal_len, uint64_t nursery[SELVAIGO_NURSERY], uint64_t *entries,
-                              size_t entries_len, uint64_t *waiting, size_t waiting_len, uint8_t *cells, size_t cells_len,
-                              uint64_t read[3]);
+/* A journal, read into an empty nursery with a delay, of which it says nothing: writes nursery, entries, waiting and cells, whatever was
+ * in them, and read: records applied, the place after the last of them, and the number that ended it: 0 at the journal's end, 16 where
+ * the record there is cut, 12 or 13 where its delta is refused, and no other; what was applied stays. There are two refusals:
+ * SELVAIGO_BAD_SETTING, whatever the journal is; and SELVAIGO_DAMAGED, where the scan above finds damage, also behind a delta that
+ * would be refused; it comes before any delta is applied. */
+uint8_t selvaigo_read_journal(const uint8_t *journal, size_t journal_len, uint64_t delay, uint64_t nursery[SELVAIGO_NURSERY],
+                              uint64_t *entries, size_t entries_len, uint64_t *waiting, size_t waiting_len, uint8_t *cells,
+                              size_t cells_len, uint64_t read[3]);
 
 /* A journal of the time when bytes after a payload's last item were passed over, rewritten for the rule that refuses them: each record
  * without such leftovers, with its length and its hash set anew; one that has none comes out as it was. From the first record on that is

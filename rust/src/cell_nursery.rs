@@ -2,10 +2,8 @@
 use std::borrow::Cow;
 use std::fmt;
 
+use crate::settings::check_delay;
 use crate::{Idx, JournalEnd, Refusal, raw, size, sys, taken, words};
-
-/// How many rounds an entry waits before it is due for promotion.
-pub const PROMOTION_DELAY_ROUNDS: u32 = 100;
 
 /// The hash of a cell.
 #[derive(Clone, Copy, PartialEq, Eq, Hash, PartialOrd, Ord)]
@@ -190,35 +188,36 @@ pub struct CellNursery {
 // SAFETY, of every held call below: record and tables are those that the port's calls have written, or that `from_parts` has seen to hold
 // a state; no method lends them to be written. Pointers and lengths are those of slices and arrays borrowed for the call.
 impl CellNursery {
-    // An empty nursery is zeros throughout; the port is asked to make one all the same.
-    fn zeros(entries: usize, cell_bytes: usize) -> Self {
-        Self {
+    // A record and tables for a call that writes all of them. A delay that it would refuse is refused before anything is asked for.
+    fn unread(entries: usize, cell_bytes: usize, delay: u64) -> Result<Self, Refusal> {
+        check_delay(delay)?;
+        Ok(Self {
             nursery: [0; sys::NURSERY],
             entries: vec![0; words(entries, 8)].into(),
             waiting: vec![0; words(entries, 5)].into(),
             cells: vec![0; cell_bytes].into(),
-        }
+        })
     }
 
-    /// An empty nursery, with room for so many entries and so many bytes of their cells.
+    /// An empty nursery, with room for so many entries and so many bytes of their cells, and with a delay. Only [`Refusal::BadSetting`] refuses it.
     ///
     /// # Panics
     ///
-    /// Where that is more than a slice can have.
-    pub fn new(entries: usize, cell_bytes: usize) -> Self {
-        let mut n = Self::zeros(entries, cell_bytes);
-        raw::nursery_new(&mut n.nursery, &mut n.entries, &mut n.waiting, &mut n.cells);
-        n
+    /// Where the room is more than a slice can have.
+    pub fn new(entries: usize, cell_bytes: usize, delay: u64) -> Result<Self, Refusal> {
+        let mut n = Self::unread(entries, cell_bytes, delay)?;
+        raw::nursery_new(delay, &mut n.nursery, &mut n.entries, &mut n.waiting, &mut n.cells)?;
+        Ok(n)
     }
 
     // The nursery that a journal makes out of an empty one.
-    pub(crate) fn read(journal: &[u8], entries: usize, cell_bytes: usize) -> Result<(Self, JournalEnd), Refusal> {
-        let mut n = Self::zeros(entries, cell_bytes);
-        let end = raw::read_journal(journal, &mut n.nursery, &mut n.entries, &mut n.waiting, &mut n.cells)?;
+    pub(crate) fn read(journal: &[u8], entries: usize, cell_bytes: usize, delay: u64) -> Result<(Self, JournalEnd), Refusal> {
+        let mut n = Self::unread(entries, cell_bytes, delay)?;
+        let end = raw::read_journal(journal, delay, &mut n.nursery, &mut n.entries, &mut n.waiting, &mut n.cells)?;
         Ok((n, end))
     }
 
-    /// The nursery of a record and tables, where these hold a state.
+    /// The nursery of a record and tables, where these hold a state; else they are refused with [`Refusal::Broken`]. Its delay is the record's.
     pub fn from_parts(parts: NurseryParts) -> Result<Self, Refusal> {
         let NurseryParts { nursery, entries, waiting, cells } = parts;
         let mut n = Self { nursery, entries, waiting, cells };
@@ -251,6 +250,11 @@ impl CellNursery {
     /// The cells.
     pub fn cells(&self) -> &[u8] {
         &self.cells
+    }
+
+    /// How many rounds an entry waits before it is due for promotion: what the nursery was made or read in with.
+    pub fn delay(&self) -> u64 {
+        self.nursery[3]
     }
 
     /// How many entries there are.
@@ -302,15 +306,15 @@ impl CellNursery {
     // The waiting rows that are due stand at the front.
     fn due(&self, round: u32) -> usize {
         let rows = self.waiting.as_chunks::<5>().0;
-        match round.checked_sub(PROMOTION_DELAY_ROUNDS) {
-            Some(last) => rows[..self.waiting_len()].partition_point(|row| row[0] <= last.into()),
+        match u64::from(round).checked_sub(self.delay()) {
+            Some(last) => rows[..self.waiting_len()].partition_point(|row| row[0] <= last),
             None => 0,
         }
     }
 
     /// Hands out the waiting cells that are due at a round, by born round, then arrival; they stay as entries and wait no longer.
     /// An entry that isn't removed is handed out once: by the first drain after its insert at a round of at least its born round plus
-    /// [`PROMOTION_DELAY_ROUNDS`].
+    /// [`CellNursery::delay`].
     pub fn drain_promotable(&mut self, round: u32, mut f: impl FnMut(HashBytes, Idx, &[u8])) {
         let due = self.due(round);
         let mut out = vec![0; 42 * due + self.cell_bytes().min(due.saturating_mul(65_535))];

@@ -1,7 +1,7 @@
 //! The counters of a box.
 use std::fmt;
 
-use crate::{Refusal, raw, size, sys, taken, words};
+use crate::{Refusal, ShrinkSettings, raw, size, sys, taken, words};
 
 /// The index of a cell.
 #[derive(Debug, Clone, Copy, PartialEq, Eq, Hash, PartialOrd, Ord)]
@@ -90,10 +90,12 @@ pub fn should_shrink(alive: u64, removed_since_shrink: u64, min_removed: u64) ->
     unsafe { sys::selvaigo_should_shrink(alive, removed_since_shrink, min_removed) != 0 }
 }
 
-/// The alive threshold after a shrinking that saved so many bytes.
-pub fn adjust_shrink_threshold(min_alive_removed_before_shrink: u64, bytes_saved: u64) -> u64 {
+/// The alive threshold after a shrinking that saved so many bytes: the base after a good save, else twice as much, or the maximum if that is less. The
+/// settings may be any.
+pub fn adjust_shrink_threshold(min_alive_removed_before_shrink: u64, bytes_saved: u64, settings: ShrinkSettings) -> u64 {
+    let ShrinkSettings { base, max, good_save } = settings;
     // SAFETY: numbers only.
-    unsafe { sys::selvaigo_adjust_shrink_threshold(min_alive_removed_before_shrink, bytes_saved) }
+    unsafe { sys::selvaigo_adjust_shrink_threshold(min_alive_removed_before_shrink, bytes_saved, base, max, good_save) }
 }
 
 /// Counts of references, by index, in a table that they own. Nothing but the port writes it, so no call checks it. There are never more stored
@@ -107,28 +109,29 @@ pub struct Counters {
 // SAFETY, of every held call below: record and table are those that the port's calls have written, or that `from_parts` has seen to hold a
 // state; no method lends them to be written. Pointers and lengths are those of slices and arrays borrowed for the call.
 impl Counters {
-    /// Counters with nothing stored, with room for so many counts above 1.
-    ///
-    /// # Panics
-    ///
-    /// Where that is more than a slice can have.
-    pub fn new(next_idx: NextIdx, room: usize) -> Self {
-        let mut counters = Self::unread(room);
-        let Self { state, counts } = &mut counters;
-        raw::new(next_idx, state, counts);
-        counters
-    }
-
-    /// The counters that a snapshot holds, with room for so many counts above 1. The last of the refusals is [`Refusal::FewCells`]: the snapshot has
-    /// more counts than its live total. [`Counters::load_snapshot`] takes such a one.
+    /// Counters with nothing stored, with room for so many counts above 1. Only [`Refusal::BadSetting`] refuses it.
     ///
     /// # Panics
     ///
     /// Where the room is more than a slice can have.
-    pub fn deserialize_trusted(snapshot: &[u8], room: usize) -> Result<Self, Refusal> {
-        let mut counters = Self::unread(room);
+    pub fn new(next_idx: NextIdx, room: usize, settings: ShrinkSettings) -> Result<Self, Refusal> {
+        let mut counters = Self::unread(room, settings)?;
         let Self { state, counts } = &mut counters;
-        raw::deserialize_trusted(snapshot, state, counts)?;
+        raw::new(next_idx, settings, state, counts)?;
+        Ok(counters)
+    }
+
+    /// The counters that a snapshot holds, with room for so many counts above 1, and with settings, of which it has none. The first of the refusals,
+    /// whatever the snapshot is, is [`Refusal::BadSetting`]. The last is [`Refusal::FewCells`]: the snapshot has more counts than its live total.
+    /// [`Counters::load_snapshot`] takes such a one.
+    ///
+    /// # Panics
+    ///
+    /// Where the room is more than a slice can have.
+    pub fn deserialize_trusted(snapshot: &[u8], room: usize, settings: ShrinkSettings) -> Result<Self, Refusal> {
+        let mut counters = Self::unread(room, settings)?;
+        let Self { state, counts } = &mut counters;
+        raw::deserialize_trusted(snapshot, settings, state, counts)?;
         Ok(counters)
     }
 
@@ -139,24 +142,25 @@ impl Counters {
     /// It is for loading such a snapshot once: what is serialized then is read as any other.
     ///
     /// ```
-    /// use selvaigo::{Counters, NodeBox, Refusal, Room};
+    /// use selvaigo::{Counters, NodeBox, Refusal, Room, Settings};
     ///
     /// # use selvaigo::{CounterTransition, Idx, NextIdx};
-    /// # let mut counters = Counters::new(NextIdx::new(2), 8);
+    /// # let mut counters = Counters::new(NextIdx::new(2), 8, Settings::STANDARD.shrink())?;
     /// # counters.apply_batch(&[CounterTransition { idx: Idx::new(0), old_raw: 0, new_raw: 5 }])?;
     /// # let mut old = counters.serialize();
     /// # old[9..17].fill(0);
     /// # let journal = [];
     /// // `old` has a count, and the live total 0.
-    /// let room = Room { counts: 1_024, entries: 256, cell_bytes: 16_384 };
-    /// assert_eq!(Counters::deserialize_trusted(&old, room.counts).unwrap_err(), Refusal::FewCells);
+    /// let (room, settings) = (Room { counts: 1_024, entries: 256, cell_bytes: 16_384 }, Settings::default());
+    /// let refused = Counters::deserialize_trusted(&old, room.counts, settings.shrink()).unwrap_err();
+    /// assert_eq!(refused, Refusal::FewCells);
     ///
-    /// let loaded = Counters::load_snapshot(&old, room.counts)?;
+    /// let loaded = Counters::load_snapshot(&old, room.counts, settings.shrink())?;
     /// assert_eq!((loaded.old_total, loaded.counters.live_cells()), (0, 1));
     /// let new = loaded.counters.serialize();
     ///
     /// // From here on `new` stands for `old`.
-    /// let restored = NodeBox::restore(&new, &journal, room)?;
+    /// let restored = NodeBox::restore(&new, &journal, room, settings)?;
     /// assert_eq!(restored.node_box.counters.live_cells(), 1);
     /// # Ok::<(), Box<dyn std::error::Error>>(())
     /// ```
@@ -164,19 +168,21 @@ impl Counters {
     /// # Panics
     ///
     /// Where the room is more than a slice can have.
-    pub fn load_snapshot(snapshot: &[u8], room: usize) -> Result<Loaded, Refusal> {
-        let mut counters = Self::unread(room);
+    pub fn load_snapshot(snapshot: &[u8], room: usize, settings: ShrinkSettings) -> Result<Loaded, Refusal> {
+        let mut counters = Self::unread(room, settings)?;
         let Self { state, counts } = &mut counters;
-        let old_total = raw::load_snapshot(snapshot, state, counts)?;
+        let old_total = raw::load_snapshot(snapshot, settings, state, counts)?;
         Ok(Loaded { counters, old_total })
     }
 
-    // A record and a table for a call that writes both.
-    fn unread(room: usize) -> Self {
-        Self { state: [0; sys::STATE], counts: vec![0; words(room, 2)].into() }
+    // A record and a table for a call that writes both. Settings that it would refuse are refused before anything is asked for.
+    fn unread(room: usize, settings: ShrinkSettings) -> Result<Self, Refusal> {
+        settings.check()?;
+        Ok(Self { state: [0; sys::STATE], counts: vec![0; words(room, 2)].into() })
     }
 
-    /// The counters of a record and a table of docs/LAYOUT.md, where these hold a state; else they are refused with [`Refusal::Broken`].
+    /// The counters of a record and a table of docs/LAYOUT.md, where these hold a state; else they are refused with [`Refusal::Broken`]. Their settings are
+    /// the record's.
     pub fn from_parts(state: [u64; sys::STATE], counts: Box<[u64]>) -> Result<Self, Refusal> {
         let mut counters = Self { state, counts };
         let Self { state, counts } = &mut counters;
@@ -218,6 +224,11 @@ impl Counters {
     /// How many there is room for.
     pub fn room(&self) -> usize {
         self.counts.len() / 2
+    }
+
+    /// The settings that they were made or read in with.
+    pub fn settings(&self) -> ShrinkSettings {
+        ShrinkSettings { base: self.state[13], max: self.state[14], good_save: self.state[15] }
     }
 
     /// The figures on removals.
@@ -268,7 +279,8 @@ impl Counters {
         })
     }
 
-    /// Maintenance: which sets are to be shrunk, where shrinking the set of all stored indices saves so many bytes. A yes sets its removals to 0.
+    /// Maintenance: which sets are to be shrunk, where shrinking the set of all stored indices saves so many bytes. A yes sets its removals to 0; that for
+    /// the set of all also sets the alive threshold anew, as [`adjust_shrink_threshold`] does by [`Counters::settings`].
     pub fn shrink_if_needed(&mut self, bytes_saved: u64) -> Shrunk {
         let mut shrunk = [0; 9];
         // SAFETY: held, see above.

@@ -71,16 +71,68 @@ pub struct JournalEnd {
     pub refusal: Option<Refusal>,
 }
 
-/// The nursery that a journal makes out of an empty one with room for so many entries and cell bytes, and where its reading ended. A damaged record,
-/// wherever it stands before the journal's end or the first cut, refuses the whole reading.
+/// Why a journal couldn't be read.
+#[derive(Debug, Clone, Copy, PartialEq, Eq)]
+pub enum JournalError {
+    /// The delay is outside its range: [`Refusal::BadSetting`]. Of the journal nothing is known.
+    Setting(Refusal),
+    /// The record for which it is refused, with [`Refusal::Damaged`].
+    Damaged(DamagedRecord),
+}
+
+impl JournalError {
+    /// The number that the reading is refused with.
+    pub const fn number(&self) -> u8 {
+        match self {
+            Self::Setting(refusal) => refusal.number(),
+            Self::Damaged(damaged) => damaged.number(),
+        }
+    }
+
+    /// The damaged record, if that is why.
+    pub const fn damaged(&self) -> Option<DamagedRecord> {
+        match self {
+            Self::Setting(_) => None,
+            Self::Damaged(damaged) => Some(*damaged),
+        }
+    }
+}
+
+impl From<DamagedRecord> for JournalError {
+    fn from(damaged: DamagedRecord) -> Self {
+        Self::Damaged(damaged)
+    }
+}
+
+impl fmt::Display for JournalError {
+    fn fmt(&self, f: &mut fmt::Formatter<'_>) -> fmt::Result {
+        match self {
+            Self::Setting(refusal) => refusal.fmt(f),
+            Self::Damaged(damaged) => damaged.fmt(f),
+        }
+    }
+}
+
+impl Error for JournalError {}
+
+/// The nursery that a journal makes out of an empty one with room for so many entries and cell bytes and with a delay, and where its reading ended. A delay
+/// outside its range is refused, whatever the journal is. A damaged record, wherever it stands before the journal's end or the first cut, refuses the
+/// whole reading.
 ///
 /// # Panics
 ///
 /// Where the room is more than a slice can have.
-pub fn read_journal(journal: &[u8], entries: usize, cell_bytes: usize) -> Result<(CellNursery, JournalEnd), DamagedRecord> {
-    // The reading says that there is one, and a second scan which.
-    let found = |_| scan_journal(journal).damaged().expect("a damaged record, for which the reading was refused");
-    CellNursery::read(journal, entries, cell_bytes).map_err(found)
+pub fn read_journal(
+    journal: &[u8],
+    entries: usize,
+    cell_bytes: usize,
+    delay: u64,
+) -> Result<(CellNursery, JournalEnd), JournalError> {
+    CellNursery::read(journal, entries, cell_bytes, delay).map_err(|refusal| match refusal {
+        // The reading says that there is one, and a second scan which.
+        Refusal::Damaged => scan_journal(journal).damaged().expect("a damaged record, for which the reading was refused").into(),
+        setting => JournalError::Setting(setting),
+    })
 }
 
 /// A journal that was rewritten.

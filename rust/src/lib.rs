@@ -2,18 +2,19 @@
 //! writes and reads their snapshots, records and journals. The work is done by a library that is proved; this crate owns the tables that the library is lent, so
 //! that nothing else writes them, and says refusals as [`Refusal`].
 //!
-//! A [`NodeBox`] is [`Counters`] and a [`CellNursery`], in tables whose [`Room`] the caller chooses. A call is taken whole or refused whole.
+//! A [`NodeBox`] is [`Counters`] and a [`CellNursery`], in tables whose [`Room`] the caller chooses, with [`Settings`] that it keeps. A call is taken whole
+//! or refused whole.
 //!
 //! ```
-//! use selvaigo::{CounterTransition, NextIdx, NodeBox, RefCount, Room};
+//! use selvaigo::{CounterTransition, NextIdx, NodeBox, RefCount, Room, Settings};
 //!
-//! let room = Room { counts: 1_024, entries: 256, cell_bytes: 16_384 };
-//! let mut node = NodeBox::new(NextIdx::new(0), room);
+//! let (room, settings) = (Room { counts: 1_024, entries: 256, cell_bytes: 16_384 }, Settings::default());
+//! let mut node = NodeBox::new(NextIdx::new(0), room, settings)?;
 //! let idx = node.counters.alloc_idx()?;
 //! node.counters.apply_batch(&[CounterTransition { idx, old_raw: 0, new_raw: 3 }])?;
 //! assert_eq!(node.counters.get(idx)?, RefCount::new(3));
 //!
-//! let again = NodeBox::restore(&node.counters.serialize(), &[], room)?;
+//! let again = NodeBox::restore(&node.counters.serialize(), &[], room, settings)?;
 //! assert_eq!(again.node_box.counters.get(idx)?, RefCount::new(3));
 //! # Ok::<(), Box<dyn std::error::Error>>(())
 //! ```
@@ -32,19 +33,21 @@ mod journal;
 mod node_box;
 pub mod raw;
 mod refusal;
+mod settings;
 pub mod sys;
 
-pub use cell_nursery::{
-    CellNursery, DeltaItems, HashBytes, NurseryDelta, NurseryEntryRecord, NurseryParts, PROMOTION_DELAY_ROUNDS, PromotedCell,
-};
+pub use cell_nursery::{CellNursery, DeltaItems, HashBytes, NurseryDelta, NurseryEntryRecord, NurseryParts, PromotedCell};
 pub use counters::{
     CounterBatch, CounterMaintenance, CounterTransition, Counters, Idx, Loaded, NextIdx, RefCount, Shrunk,
     adjust_shrink_threshold, should_shrink,
 };
 pub use format::{DecodedRecord, EncodedRecord, HASH_LEN, RecordStats, decode_record, encode_items, encode_record, hash};
-pub use journal::{Converted, DamagedRecord, Dropped, JournalEnd, JournalScan, convert_journal, read_journal, scan_journal};
+pub use journal::{
+    Converted, DamagedRecord, Dropped, JournalEnd, JournalError, JournalScan, convert_journal, read_journal, scan_journal,
+};
 pub use node_box::{NodeBox, RestoreError, Restored, Room};
 pub use refusal::Refusal;
+pub use settings::{Settings, ShrinkSettings};
 
 // The length of a table of so many rows. Tables are asked for when a box is made; more than a slice can be is the caller's mistake, as it is for a `Vec`.
 fn words(rows: usize, width: usize) -> usize {
@@ -56,7 +59,7 @@ fn size(number: u64) -> usize {
     usize::try_from(number).expect("a length in memory")
 }
 
-// The answer where nothing is left to refuse: of a call that makes counters or a nursery or scans a journal, or of a held call over tables that the port wrote.
+// The answer where nothing is left to refuse: of a call that scans a journal, or of a held call over tables that the port wrote.
 fn taken(answer: u8) {
     if let Err(refusal) = Refusal::of(answer) {
         panic!("the port refused what it always takes: {refusal}");

@@ -3,7 +3,9 @@ use std::error::Error;
 use std::fmt;
 
 use crate::format::encoded;
-use crate::{CellNursery, Counters, DamagedRecord, JournalEnd, NextIdx, NurseryDelta, Refusal, read_journal};
+use crate::{
+    CellNursery, Counters, DamagedRecord, JournalEnd, JournalError, NextIdx, NurseryDelta, Refusal, Settings, read_journal,
+};
 
 /// How much a box's tables have room for. It takes 16 bytes a count and 104 an entry, beside the cells.
 #[derive(Debug, Clone, Copy, PartialEq, Eq)]
@@ -37,6 +39,8 @@ pub struct Restored {
 /// Why a box couldn't be read in.
 #[derive(Debug, Clone, Copy, PartialEq, Eq)]
 pub enum RestoreError {
+    /// One of its settings is outside its range: [`Refusal::BadSetting`]. Of snapshot and journal nothing is known.
+    Setting(Refusal),
     /// What its snapshot is refused with.
     Snapshot(Refusal),
     /// The record for which its journal is refused.
@@ -44,18 +48,31 @@ pub enum RestoreError {
 }
 
 impl RestoreError {
-    /// The number that the reading of the snapshot or of the journal is refused with.
+    /// The number that the settings, or the reading of the snapshot or of the journal, are refused with.
     pub const fn number(&self) -> u8 {
         match self {
-            Self::Snapshot(refusal) => refusal.number(),
+            Self::Setting(refusal) | Self::Snapshot(refusal) => refusal.number(),
             Self::Journal(damaged) => damaged.number(),
         }
     }
 }
 
+// Of settings, or of a snapshot that is read with settings.
 impl From<Refusal> for RestoreError {
     fn from(refusal: Refusal) -> Self {
-        Self::Snapshot(refusal)
+        match refusal {
+            Refusal::BadSetting => Self::Setting(refusal),
+            _ => Self::Snapshot(refusal),
+        }
+    }
+}
+
+impl From<JournalError> for RestoreError {
+    fn from(error: JournalError) -> Self {
+        match error {
+            JournalError::Setting(refusal) => Self::Setting(refusal),
+            JournalError::Damaged(damaged) => Self::Journal(damaged),
+        }
     }
 }
 
@@ -69,6 +86,7 @@ impl From<DamagedRecord> for RestoreError {
 impl fmt::Display for RestoreError {
     fn fmt(&self, f: &mut fmt::Formatter<'_>) -> fmt::Result {
         match self {
+            Self::Setting(_) => write!(f, "settings refused with {}", self.number()),
             Self::Snapshot(_) => write!(f, "snapshot refused with {}", self.number()),
             Self::Journal(damaged) => write!(f, "journal refused with {} at byte {}", self.number(), damaged.place),
         }
@@ -78,33 +96,45 @@ impl fmt::Display for RestoreError {
 impl Error for RestoreError {
     fn source(&self) -> Option<&(dyn Error + 'static)> {
         match self {
-            Self::Snapshot(refusal) => Some(refusal),
+            Self::Setting(refusal) | Self::Snapshot(refusal) => Some(refusal),
             Self::Journal(damaged) => Some(damaged),
         }
     }
 }
 
 impl NodeBox {
-    /// A fresh box: the next index as handed over, the rest empty.
+    /// A fresh box: the next index as handed over, the rest empty. Only [`Refusal::BadSetting`] refuses it, and then nothing is made.
     ///
     /// # Panics
     ///
     /// Where the room is more than slices can have.
-    pub fn new(next_idx: NextIdx, room: Room) -> Self {
-        Self { counters: Counters::new(next_idx, room.counts), nursery: CellNursery::new(room.entries, room.cell_bytes) }
+    pub fn new(next_idx: NextIdx, room: Room, settings: Settings) -> Result<Self, Refusal> {
+        // All four are judged before either half is made.
+        settings.check()?;
+        let counters = Counters::new(next_idx, room.counts, settings.shrink())?;
+        let nursery = CellNursery::new(room.entries, room.cell_bytes, settings.delay)?;
+        Ok(Self { counters, nursery })
     }
 
-    /// A new box with the counters of a snapshot and the nursery of a journal. A snapshot may be refused, and a journal with a damaged record; else the
-    /// journal is read up to its end, the first record that is cut, or the first delta that is refused: [`Restored::journal`] says which. A snapshot
-    /// that is refused with [`Refusal::FewCells`] is to be loaded once by [`Counters::load_snapshot`] and serialized again.
+    /// A new box with the counters of a snapshot and the nursery of a journal, and with settings, of which these have none: to go on with a box they are
+    /// that box's. A setting outside its range is refused before either is looked at. A snapshot may be refused, and a journal with a damaged record; else
+    /// the journal is read up to its end, the first record that is cut, or the first delta that is refused: [`Restored::journal`] says which. A
+    /// snapshot that is refused with [`Refusal::FewCells`] is to be loaded once by [`Counters::load_snapshot`] and serialized again.
     ///
     /// # Panics
     ///
     /// Where the room is more than slices can have.
-    pub fn restore(snapshot: &[u8], journal: &[u8], room: Room) -> Result<Restored, RestoreError> {
-        let counters = Counters::deserialize_trusted(snapshot, room.counts)?;
-        let (nursery, journal) = read_journal(journal, room.entries, room.cell_bytes)?;
+    pub fn restore(snapshot: &[u8], journal: &[u8], room: Room, settings: Settings) -> Result<Restored, RestoreError> {
+        // All four are judged before either half is read.
+        settings.check()?;
+        let counters = Counters::deserialize_trusted(snapshot, room.counts, settings.shrink())?;
+        let (nursery, journal) = read_journal(journal, room.entries, room.cell_bytes, settings.delay)?;
         Ok(Restored { node_box: Self { counters, nursery }, journal })
+    }
+
+    /// The settings of its two halves.
+    pub fn settings(&self) -> Settings {
+        Settings::of(self.nursery.delay(), self.counters.settings())
     }
 
     /// A delta, and its record at the end of the box's journal: where it is taken and has an insert or a remove. A refusal changes neither.

@@ -1,18 +1,25 @@
 //! The calls over records and tables that the caller lends, of any content, and tables of any length: they are checked first, and what isn't in
-//! the layout of docs/LAYOUT.md is refused with [`Refusal::Broken`]. The check is a pass over what is lent, and a look-up for each waiting row.
+//! the layout of docs/LAYOUT.md is refused with [`Refusal::Broken`], as is a setting outside its range. The check is a pass over what is lent, and a
+//! look-up for each waiting row. The calls that make or read in write over what is lent, whatever it is; [`Refusal::BadSetting`] comes first, and leaves it.
 use std::ops::Range;
 
 // The first pass of a reading by itself, which is lent no table.
 pub use crate::journal::scan_journal;
-use crate::{DeltaItems, HashBytes, Idx, JournalEnd, NextIdx, RefCount, Refusal, Shrunk, size, sys, taken};
+use crate::{DeltaItems, HashBytes, Idx, JournalEnd, NextIdx, RefCount, Refusal, ShrinkSettings, Shrunk, size, sys};
 
 // SAFETY, of every call below: pointers and lengths are those of slices and arrays that are borrowed for the call, and what is borrowed to be
 // written overlaps nothing. The checked calls ask no more.
 
-/// Counters with nothing stored, in a record and a table of any content.
-pub fn new(next_idx: NextIdx, state: &mut [u64; sys::STATE], counts: &mut [u64]) {
+/// Counters with nothing stored, in a record and a table of any content. Only [`Refusal::BadSetting`] refuses it.
+pub fn new(
+    next_idx: NextIdx,
+    settings: ShrinkSettings,
+    state: &mut [u64; sys::STATE],
+    counts: &mut [u64],
+) -> Result<(), Refusal> {
+    let ShrinkSettings { base, max, good_save } = settings;
     // SAFETY: an array and a slice, see above.
-    taken(unsafe { sys::selvaigo_new(next_idx.get(), state, counts.as_mut_ptr(), counts.len()) })
+    Refusal::of(unsafe { sys::selvaigo_new(next_idx.get(), base, max, good_save, state, counts.as_mut_ptr(), counts.len()) })
 }
 
 /// The next index, handed out.
@@ -61,30 +68,68 @@ pub fn serialize(state: &[u64; sys::STATE], counts: &[u64], out: &mut [u8]) -> R
     Ok(size(len[0]))
 }
 
-/// The counters of a snapshot, into a record and a table of any content.
-pub fn deserialize_trusted(snapshot: &[u8], state: &mut [u64; sys::STATE], counts: &mut [u64]) -> Result<(), Refusal> {
+/// The counters of a snapshot, with settings, into a record and a table of any content.
+pub fn deserialize_trusted(
+    snapshot: &[u8],
+    settings: ShrinkSettings,
+    state: &mut [u64; sys::STATE],
+    counts: &mut [u64],
+) -> Result<(), Refusal> {
+    let ShrinkSettings { base, max, good_save } = settings;
     // SAFETY: slices and arrays, see above.
     Refusal::of(unsafe {
-        sys::selvaigo_deserialize_trusted(snapshot.as_ptr(), snapshot.len(), state, counts.as_mut_ptr(), counts.len())
+        sys::selvaigo_deserialize_trusted(
+            snapshot.as_ptr(),
+            snapshot.len(),
+            base,
+            max,
+            good_save,
+            state,
+            counts.as_mut_ptr(),
+            counts.len(),
+        )
     })
 }
 
 /// The same for a snapshot whose live total may be below its number of counts, as [`crate::Counters::load_snapshot`] says: the live total that
 /// the snapshot has.
-pub fn load_snapshot(snapshot: &[u8], state: &mut [u64; sys::STATE], counts: &mut [u64]) -> Result<u64, Refusal> {
+pub fn load_snapshot(
+    snapshot: &[u8],
+    settings: ShrinkSettings,
+    state: &mut [u64; sys::STATE],
+    counts: &mut [u64],
+) -> Result<u64, Refusal> {
+    let ShrinkSettings { base, max, good_save } = settings;
     let mut old_total = [0];
     // SAFETY: slices and arrays, see above.
     Refusal::of(unsafe {
-        sys::selvaigo_load_snapshot(snapshot.as_ptr(), snapshot.len(), state, counts.as_mut_ptr(), counts.len(), &mut old_total)
+        sys::selvaigo_load_snapshot(
+            snapshot.as_ptr(),
+            snapshot.len(),
+            base,
+            max,
+            good_save,
+            state,
+            counts.as_mut_ptr(),
+            counts.len(),
+            &mut old_total,
+        )
     })?;
     Ok(old_total[0])
 }
 
-/// An empty nursery, in a record and tables of any content.
-pub fn nursery_new(nursery: &mut [u64; sys::NURSERY], entries: &mut [u64], waiting: &mut [u64], cells: &mut [u8]) {
+/// An empty nursery with a delay, in a record and tables of any content. Only [`Refusal::BadSetting`] refuses it.
+pub fn nursery_new(
+    delay: u64,
+    nursery: &mut [u64; sys::NURSERY],
+    entries: &mut [u64],
+    waiting: &mut [u64],
+    cells: &mut [u8],
+) -> Result<(), Refusal> {
     // SAFETY: an array and slices, see above.
-    taken(unsafe {
+    Refusal::of(unsafe {
         sys::selvaigo_nursery_new(
+            delay,
             nursery,
             entries.as_mut_ptr(),
             entries.len(),
@@ -194,10 +239,11 @@ pub fn snapshot_entries(nursery: &[u64; sys::NURSERY], entries: &[u64], cells: &
     Ok(size(len[0]))
 }
 
-/// A journal, read into an empty nursery in a record and tables of any content. Only [`Refusal::Damaged`] refuses it, and then these are as they
-/// were; [`scan_journal`] says where the damage is.
+/// A journal, read into an empty nursery with a delay, in a record and tables of any content. Two refusals leave these as they were:
+/// [`Refusal::BadSetting`], whatever the journal is, and then [`Refusal::Damaged`]; [`scan_journal`] says where the damage is.
 pub fn read_journal(
     journal: &[u8],
+    delay: u64,
     nursery: &mut [u64; sys::NURSERY],
     entries: &mut [u64],
     waiting: &mut [u64],
@@ -209,6 +255,7 @@ pub fn read_journal(
         sys::selvaigo_read_journal(
             journal.as_ptr(),
             journal.len(),
+            delay,
             nursery,
             entries.as_mut_ptr(),
             entries.len(),

@@ -13,9 +13,9 @@ macro_rules! refusals {
 
         impl Refusal {
             /// All of them, by number.
-            pub const ALL: [Refusal; 23] = [$(Refusal::$name),*];
+            pub const ALL: [Refusal; 24] = [$(Refusal::$name),*];
 
-            /// The refusal of that number; none has 0, which is no refusal, or 23 or 24, or a number above 25.
+            /// The refusal of that number; none has 0, which is no refusal, or 24, or a number above 25.
             pub const fn from_number(number: u8) -> Option<Refusal> {
                 match number {
                     $($number => Some(Refusal::$name),)*
@@ -78,6 +78,8 @@ refusals! {
     Damaged = 21, "damaged";
     /// Bytes of a record's payload are left over after its last item. It comes after the refusals 16 to 19.
     Leftover = 22, "leftover";
+    /// A setting is outside its range. It comes before all others, where a box is made or read in; of a record that is lent it is [`Refusal::Broken`].
+    BadSetting = 23, "bad setting";
     /// Fewer cells than counts: the stored counts after the call exceed the live total. It comes last, of a batch and of a snapshot.
     FewCells = 25, "few cells";
 }

@@ -7,14 +7,34 @@
 //! record and tables hold a state of docs/LAYOUT.md, which they do where nothing but these calls has written them.
 
 /// Words in the state record of the counters.
-pub const STATE: usize = 13;
+pub const STATE: usize = 16;
 
 /// Words in the state record of the nursery.
-pub const NURSERY: usize = 3;
+pub const NURSERY: usize = 4;
+
+/// The standard delay.
+pub const STANDARD_DELAY: u64 = 100;
+
+/// The standard shrink base.
+pub const STANDARD_SHRINK_BASE: u64 = 131_072;
+
+/// The standard shrink maximum.
+pub const STANDARD_SHRINK_MAX: u64 = 2_097_152;
+
+/// The standard good save.
+pub const STANDARD_GOOD_SAVE: u64 = 1_048_576;
 
 unsafe extern "C" {
     /// Counters with nothing stored.
-    pub fn selvaigo_new(next_idx: u64, state: *mut [u64; STATE], counts: *mut u64, counts_len: usize) -> u8;
+    pub fn selvaigo_new(
+        next_idx: u64,
+        shrink_base: u64,
+        shrink_max: u64,
+        good_save: u64,
+        state: *mut [u64; STATE],
+        counts: *mut u64,
+        counts_len: usize,
+    ) -> u8;
     /// The next index, handed out.
     pub fn selvaigo_alloc_idx(state: *mut [u64; STATE], idx: *mut [u64; 1]) -> u8;
     /// The count at an index.
@@ -62,7 +82,13 @@ unsafe extern "C" {
     /// The rule of shrinking: 1 yes, 0 no.
     pub fn selvaigo_should_shrink(alive: u64, removed_since_shrink: u64, min_removed: u64) -> u8;
     /// The alive threshold after a shrinking.
-    pub fn selvaigo_adjust_shrink_threshold(min_alive_removed_before_shrink: u64, bytes_saved: u64) -> u64;
+    pub fn selvaigo_adjust_shrink_threshold(
+        min_alive_removed_before_shrink: u64,
+        bytes_saved: u64,
+        shrink_base: u64,
+        shrink_max: u64,
+        good_save: u64,
+    ) -> u64;
     /// How many bytes the snapshot takes.
     pub fn selvaigo_serialized_len(state: *const [u64; STATE], counts: *const u64, counts_len: usize, len: *mut [u64; 1]) -> u8;
     /// The same, where record and table hold a state.
@@ -94,6 +120,9 @@ unsafe extern "C" {
     pub fn selvaigo_deserialize_trusted(
         snapshot: *const u8,
         snapshot_len: usize,
+        shrink_base: u64,
+        shrink_max: u64,
+        good_save: u64,
         state: *mut [u64; STATE],
         counts: *mut u64,
         counts_len: usize,
@@ -102,6 +131,9 @@ unsafe extern "C" {
     pub fn selvaigo_load_snapshot(
         snapshot: *const u8,
         snapshot_len: usize,
+        shrink_base: u64,
+        shrink_max: u64,
+        good_save: u64,
         state: *mut [u64; STATE],
         counts: *mut u64,
         counts_len: usize,
@@ -109,6 +141,7 @@ unsafe extern "C" {
     ) -> u8;
     /// An empty nursery.
     pub fn selvaigo_nursery_new(
+        delay: u64,
         nursery: *mut [u64; NURSERY],
         entries: *mut u64,
         entries_len: usize,
@@ -255,6 +288,7 @@ unsafe extern "C" {
     pub fn selvaigo_read_journal(
         journal: *const u8,
         journal_len: usize,
+        delay: u64,
         nursery: *mut [u64; NURSERY],
         entries: *mut u64,
         entries_len: usize,

@@ -1,5 +1,5 @@
 //! Two batches in a row, made up at random on counters that go on from batch to batch: one that takes the other back, and two in either order.
-use selvaigo::{CounterTransition, Counters, Idx, NextIdx, RefCount, Refusal};
+use selvaigo::{CounterTransition, Counters, Idx, NextIdx, RefCount, Refusal, ShrinkSettings};
 
 const NEXT: u64 = 24;
 const ROOM: usize = 16;
@@ -38,6 +38,10 @@ impl Numbers {
     }
 }
 
+fn fresh() -> Counters {
+    Counters::new(NextIdx::new(NEXT), ROOM, ShrinkSettings::STANDARD).unwrap()
+}
+
 fn kept(batch: &[CounterTransition]) -> impl Iterator<Item = CounterTransition> + '_ {
     batch.iter().copied().filter(|t| t.old_raw != t.new_raw)
 }
@@ -53,7 +57,7 @@ fn after(c: &Counters, batch: &[CounterTransition]) -> Result<Counters, Refusal>
 
 #[test]
 fn a_batch_is_taken_back() {
-    let (mut c, mut n) = (Counters::new(NextIdx::new(NEXT), ROOM), Numbers(7));
+    let (mut c, mut n) = (fresh(), Numbers(7));
     let (mut taken, mut refused, mut few, mut full, mut grown) = (0, 0, 0, 0, 0);
     for _ in 0..4_000 {
         let batch = n.batch(&c);
@@ -85,7 +89,7 @@ fn a_batch_is_taken_back() {
 
 #[test]
 fn batches_in_either_order() {
-    let (mut c, mut n) = (Counters::new(NextIdx::new(NEXT), ROOM), Numbers(11));
+    let (mut c, mut n) = (fresh(), Numbers(11));
     let (mut both, mut one, mut few, mut common) = (0, 0, 0, 0);
     for _ in 0..12_000 {
         let (a, b) = (n.batch(&c), n.batch(&c));

@@ -2,9 +2,16 @@
 //! loaded once, and batches and snapshots made up at random, beside a plain model.
 use std::collections::{BTreeMap, BTreeSet};
 
-use selvaigo::{CounterTransition, Counters, Idx, NextIdx, NodeBox, RefCount, Refusal, RestoreError, Room, raw, sys};
+use selvaigo::{
+    CounterTransition, Counters, Idx, NextIdx, NodeBox, RefCount, Refusal, RestoreError, Room, Settings, ShrinkSettings, raw, sys,
+};
 
 const NEXT: u64 = 24;
+const SETTINGS: ShrinkSettings = ShrinkSettings::STANDARD;
+
+fn fresh(next: u64, room: usize) -> Counters {
+    Counters::new(NextIdx::new(next), room, SETTINGS).unwrap()
+}
 
 fn change(idx: u64, old_raw: u64, new_raw: u64) -> CounterTransition {
     CounterTransition { idx: Idx::new(idx), old_raw, new_raw }
@@ -30,7 +37,7 @@ fn batch(c: &Counters, batch: &[CounterTransition]) -> Result<Counters, Refusal>
 
 // The number of a batch on counters at a next index with so much room, and the live total after it.
 fn answered(next: u64, room: usize, changes: &[CounterTransition]) -> (u8, u64) {
-    match batch(&Counters::new(NextIdx::new(next), room), changes) {
+    match batch(&fresh(next, room), changes) {
         Ok(c) => (0, c.live_cells()),
         Err(refusal) => (refusal.number(), 0),
     }
@@ -38,7 +45,7 @@ fn answered(next: u64, room: usize, changes: &[CounterTransition]) -> (u8, u64) 
 
 // Counters at next 4 with live total 1 and count 5 at index 0.
 fn one_cell() -> Counters {
-    batch(&Counters::new(NextIdx::new(4), 2), &[change(0, 0, 5)]).unwrap()
+    batch(&fresh(4, 2), &[change(0, 0, 5)]).unwrap()
 }
 
 #[test]
@@ -54,7 +61,7 @@ fn worked_batches() {
 
 #[test]
 fn a_box_allocates_and_is_refused_once() {
-    let mut c = Counters::new(NextIdx::new(0), 1_024);
+    let mut c = fresh(0, 1_024);
     assert_eq!((c.alloc_idx(), c.live_cells()), (Ok(Idx::new(0)), 0));
     assert_eq!(c.apply_batch(&[change(0, 1, 5)]), Err(Refusal::FewCells));
     assert_eq!((c.next_idx().get(), c.live_cells()), (1, 0));
@@ -180,8 +187,8 @@ fn into_words<T>(
 }
 
 fn read(bytes: &[u8], len: usize) -> Result<([u64; sys::STATE], Vec<u64>), Refusal> {
-    let answer = into_words(len, |state, counts| raw::deserialize_trusted(bytes, state, counts));
-    let owned = Counters::deserialize_trusted(bytes, len / 2).map(Counters::into_parts);
+    let answer = into_words(len, |state, counts| raw::deserialize_trusted(bytes, SETTINGS, state, counts));
+    let owned = Counters::deserialize_trusted(bytes, len / 2, SETTINGS).map(Counters::into_parts);
     assert_eq!(owned.as_ref().err(), answer.as_ref().err());
     if let (Ok((state, counts)), Ok((_, s, c))) = (owned, &answer) {
         assert!(state == *s && counts[..] == c[..len / 2 * 2], "the two forms differ");
@@ -191,17 +198,29 @@ fn read(bytes: &[u8], len: usize) -> Result<([u64; sys::STATE], Vec<u64>), Refus
 
 // What is loaded into so many words: the old total, the record, the table. A refusal has the old total 0 beside it.
 fn load(bytes: &[u8], len: usize) -> Result<(u64, [u64; sys::STATE], Vec<u64>), Refusal> {
-    let answer = into_words(len, |state, counts| raw::load_snapshot(bytes, state, counts));
-    let owned = Counters::load_snapshot(bytes, len / 2).map(|loaded| (loaded.old_total, loaded.counters.into_parts()));
+    let answer = into_words(len, |state, counts| raw::load_snapshot(bytes, SETTINGS, state, counts));
+    let owned = Counters::load_snapshot(bytes, len / 2, SETTINGS).map(|loaded| (loaded.old_total, loaded.counters.into_parts()));
     assert_eq!(owned.as_ref().err(), answer.as_ref().err());
     if let (Ok((total, (state, counts))), Ok((t, s, c))) = (owned, &answer) {
         assert!(total == *t && state == *s && counts[..] == c[..len / 2 * 2], "the two forms differ");
         Counters::from_parts(*s, c.clone().into()).expect("a state after loading");
     }
     let (mut state, mut counts, mut old_total) = ([9; sys::STATE], vec![9; len], [9]);
+    let ShrinkSettings { base, max, good_save } = SETTINGS;
     // SAFETY: slices and arrays, none of which overlaps another.
-    let number =
-        unsafe { sys::selvaigo_load_snapshot(bytes.as_ptr(), bytes.len(), &mut state, counts.as_mut_ptr(), len, &mut old_total) };
+    let number = unsafe {
+        sys::selvaigo_load_snapshot(
+            bytes.as_ptr(),
+            bytes.len(),
+            base,
+            max,
+            good_save,
+            &mut state,
+            counts.as_mut_ptr(),
+            len,
+            &mut old_total,
+        )
+    };
     let wanted = answer.as_ref().map_or_else(|refusal| (refusal.number(), 0), |(total, ..)| (0, *total));
     assert_eq!((number, old_total[0]), wanted);
     answer
@@ -293,18 +312,18 @@ fn a_total_that_is_enough_stays() {
 fn loaded_once_and_read_from_then_on() {
     let room = Room { counts: 4, entries: 0, cell_bytes: 0 };
     let old = snapshot(9, 1, &[(0, 5), (2, 17)], &[(3, 300)]);
-    let refused = NodeBox::restore(&old, &[], room).unwrap_err();
+    let refused = NodeBox::restore(&old, &[], room, Settings::STANDARD).unwrap_err();
     assert_eq!((refused, refused.number()), (RestoreError::Snapshot(Refusal::FewCells), 25));
     assert_eq!(refused.to_string(), "snapshot refused with 25");
-    let loaded = Counters::load_snapshot(&old, room.counts).unwrap();
+    let loaded = Counters::load_snapshot(&old, room.counts, SETTINGS).unwrap();
     assert_eq!((loaded.old_total, loaded.counters.live_cells(), loaded.counters.stored()), (1, 3, 3));
     // The new snapshot is the old one but for its total.
     let new = loaded.counters.serialize();
     assert_eq!(new, snapshot(9, 3, &[(0, 5), (2, 17)], &[(3, 300)]));
-    let mut c = NodeBox::restore(&new, &[], room).unwrap().node_box.counters;
+    let mut c = NodeBox::restore(&new, &[], room, Settings::STANDARD).unwrap().node_box.counters;
     assert_eq!((c.state(), c.counts()), (loaded.counters.state(), loaded.counters.counts()));
     assert_eq!((c.get(Idx::new(2)), c.next_idx()), (Ok(RefCount::new(17)), NextIdx::new(9)));
-    let again = Counters::load_snapshot(&new, room.counts).unwrap();
+    let again = Counters::load_snapshot(&new, room.counts, SETTINGS).unwrap();
     assert_eq!((again.old_total, again.counters.serialize()), (3, new));
     // It is held to the rule as any other.
     assert_eq!(c.apply_batch(&[change(4, 1, 2)]), Err(Refusal::FewCells));
@@ -392,7 +411,7 @@ fn batches_beside_a_plain_model() {
     let mut met: BTreeMap<u8, u64> = BTreeMap::new();
     let mut tight = 0;
     for room in [2, 6, 20].repeat(80) {
-        let mut c = Counters::new(NextIdx::new(NEXT), room);
+        let mut c = fresh(NEXT, room);
         let mut p = Plain { next: NEXT, live: 0, counts: BTreeMap::new() };
         for _ in 0..100 {
             let changes = n.batch(&p);

@@ -97,7 +97,20 @@ fn a_c_compiler_takes_both_for_the_same() {
         let name = refusal.word().to_uppercase().replace(' ', "_");
         c += &format!("_Static_assert(SELVAIGO_{name} == {}, \"{refusal}\");\n", refusal.number());
     }
-    c += &format!("_Static_assert(SELVAIGO_STATE == {} && SELVAIGO_NURSERY == {}, \"records\");\n", sys::STATE, sys::NURSERY);
+    let numbers = [
+        ("STATE", sys::STATE as u64),
+        ("NURSERY", sys::NURSERY as u64),
+        ("STANDARD_DELAY", sys::STANDARD_DELAY),
+        ("STANDARD_SHRINK_BASE", sys::STANDARD_SHRINK_BASE),
+        ("STANDARD_SHRINK_MAX", sys::STANDARD_SHRINK_MAX),
+        ("STANDARD_GOOD_SAVE", sys::STANDARD_GOOD_SAVE),
+    ];
+    for (name, number) in numbers {
+        c += &format!("_Static_assert(SELVAIGO_{name} == {number}, \"{name}\");\n");
+    }
+    // All that are there.
+    assert_eq!(DECLARATIONS.matches("pub const ").count(), numbers.len());
+    assert_eq!(HEADER.matches(" = ").count(), 1 + Refusal::ALL.len() + numbers.len());
     let source = Path::new(env!("CARGO_TARGET_TMPDIR")).join("same.c");
     std::fs::write(&source, c).unwrap();
     compile("same.o", &["-c", source.to_str().unwrap()]);
@@ -109,5 +122,7 @@ fn the_example_in_c_runs() {
     let library = format!("{}/libselvaigo.a", env!("SELVAIGO_FOLDER"));
     let run = Command::new(compile("box", &[source, &library])).output().unwrap();
     assert!(run.status.success());
-    assert_eq!(String::from_utf8(run.stdout).unwrap(), "count 3, snapshot of 167 bytes, an old count of 2: refused with 5\n");
+    let said = "count 3, snapshot of 167 bytes\n\
+                an old count of 2: refused with 5; a shrink base above its maximum: refused with 23\n";
+    assert_eq!(String::from_utf8(run.stdout).unwrap(), said);
 }

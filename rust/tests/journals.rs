@@ -4,8 +4,8 @@ use std::collections::BTreeMap;
 use std::error::Error;
 
 use selvaigo::{
-    CellNursery, Counters, DamagedRecord, HashBytes, NextIdx, NodeBox, NurseryParts, Refusal, RestoreError, Room, raw,
-    read_journal, scan_journal,
+    CellNursery, Counters, DamagedRecord, HashBytes, JournalError, NextIdx, NodeBox, NurseryParts, Refusal, RestoreError, Room,
+    Settings, raw, read_journal, scan_journal, sys,
 };
 
 mod plain;
@@ -13,10 +13,12 @@ mod worked;
 use plain::{Reading, changed_under_its_hash, decode, defined};
 use worked::{tagged, three};
 
+const SETTINGS: Settings = Settings::STANDARD;
+
 // A record and tables of so much room, with content that is no state's.
 fn nines(entries: usize, cell_bytes: usize) -> NurseryParts {
     NurseryParts {
-        nursery: [9; 3],
+        nursery: [9; sys::NURSERY],
         entries: vec![9; 8 * entries].into(),
         waiting: vec![9; 5 * entries].into(),
         cells: vec![9; cell_bytes].into(),
@@ -26,14 +28,14 @@ fn nines(entries: usize, cell_bytes: usize) -> NurseryParts {
 // The reading, over such tables and into new ones, which agree.
 fn read(journal: &[u8], entries: usize, cell_bytes: usize) -> Reading {
     let mut p = nines(entries, cell_bytes);
-    let lent = raw::read_journal(journal, &mut p.nursery, &mut p.entries, &mut p.waiting, &mut p.cells);
-    let owned = read_journal(journal, entries, cell_bytes);
+    let lent = raw::read_journal(journal, SETTINGS.delay, &mut p.nursery, &mut p.entries, &mut p.waiting, &mut p.cells);
+    let owned = read_journal(journal, entries, cell_bytes, SETTINGS.delay);
     match (lent, owned) {
         (Ok(end), Ok((nursery, same))) => {
             assert_eq!((end, &p), (same, &nursery.into_parts()));
             Ok((CellNursery::from_parts(p).unwrap().snapshot_entries(), end))
         }
-        (Err(refusal), Err(damaged)) => {
+        (Err(refusal), Err(JournalError::Damaged(damaged))) => {
             assert_eq!((refusal, refusal.number(), &p), (Refusal::Damaged, damaged.number(), &nines(entries, cell_bytes)));
             Err(damaged)
         }
@@ -122,16 +124,16 @@ fn damage_behind_a_delta_without_room() {
 #[test]
 fn a_damaged_journal_restores_no_box() {
     let room = Room { counts: 1, entries: 3, cell_bytes: 9 };
-    let snapshot = Counters::new(NextIdx::new(0), 1).serialize();
+    let snapshot = Counters::new(NextIdx::new(0), 1, SETTINGS.shrink()).unwrap().serialize();
     let mut journal = three().concat();
-    assert_eq!(NodeBox::restore(&snapshot, &journal, room).unwrap().journal.applied, 3);
+    assert_eq!(NodeBox::restore(&snapshot, &journal, room, SETTINGS).unwrap().journal.applied, 3);
     journal[150] ^= 1;
-    let error = NodeBox::restore(&snapshot, &journal, room).unwrap_err();
+    let error = NodeBox::restore(&snapshot, &journal, room, SETTINGS).unwrap_err();
     let damage = DamagedRecord { records: 1, place: 104, refusal: Refusal::Mismatch };
     assert_eq!((error, error.number()), (RestoreError::from(damage), 21));
     assert_eq!(error.to_string(), "journal refused with 21 at byte 104");
     assert_eq!(error.source().unwrap().to_string(), damage.to_string());
-    let error = NodeBox::restore(&[], &journal, room).unwrap_err();
+    let error = NodeBox::restore(&[], &journal, room, SETTINGS).unwrap_err();
     assert_eq!((error, error.number()), (RestoreError::from(Refusal::TornSnapshot), 8));
     assert_eq!(error.to_string(), "snapshot refused with 8");
     assert_eq!(error.source().unwrap().to_string(), "torn snapshot");

@@ -1,8 +1,8 @@
 //! Records whose payload goes on after the last item, and journals that are converted (document 02, P4): the worked ones, every cut and every changed
 //! bit of one, and journals made up at random, beside a plain conversion and the plain reading.
 use selvaigo::{
-    Converted, DamagedRecord, Dropped, HashBytes, Idx, JournalEnd, JournalScan, NurseryDelta, NurseryEntryRecord, Refusal,
-    convert_journal, decode_record, encode_record, hash, raw, read_journal, scan_journal,
+    CellNursery, Converted, DamagedRecord, Dropped, HashBytes, Idx, JournalEnd, JournalScan, NurseryDelta, NurseryEntryRecord,
+    Refusal, Settings, convert_journal, decode_record, encode_record, hash, raw, scan_journal,
 };
 
 mod plain;
@@ -31,6 +31,11 @@ fn with(taken: &[u8], leftovers: &[u8]) -> Vec<u8> {
 
 fn refused(bytes: &[u8]) -> u8 {
     decode_record(bytes).map_or_else(Refusal::number, |_| 0)
+}
+
+// The reading with the standard delay.
+fn read_journal(journal: &[u8], entries: usize, cell_bytes: usize) -> Result<(CellNursery, JournalEnd), DamagedRecord> {
+    selvaigo::read_journal(journal, entries, cell_bytes, Settings::STANDARD.delay).map_err(|error| error.damaged().unwrap())
 }
 
 // ---- the definition

@@ -1,10 +1,10 @@
 //! Each entry is handed out exactly once (document 02, P12): the worked lines, and boxes of calls made up at random that are read in again now and then.
 use selvaigo::{
-    CellNursery, HashBytes, Idx, NextIdx, NodeBox, NurseryDelta, NurseryEntryRecord, PROMOTION_DELAY_ROUNDS, PromotedCell,
-    Refusal, Room,
+    CellNursery, HashBytes, Idx, NextIdx, NodeBox, NurseryDelta, NurseryEntryRecord, PromotedCell, Refusal, Room, Settings,
 };
 
 const LAST: u32 = u32::MAX;
+const SETTINGS: Settings = Settings::STANDARD;
 
 fn entry(tag: u8, born_round: u32, data: &[u8]) -> NurseryEntryRecord {
     NurseryEntryRecord { hash: HashBytes([tag; 32]), idx: Idx::new(7), born_round, data: data.to_vec() }
@@ -24,7 +24,7 @@ fn removes(tag: u8) -> NurseryDelta {
 
 /// A nursery with room for two entries and two cell bytes, after an insert.
 fn holding(born_round: u32) -> CellNursery {
-    let mut n = CellNursery::new(2, 2);
+    let mut n = CellNursery::new(2, 2, SETTINGS.delay).unwrap();
     n.apply_commit(&puts(vec![one(born_round)])).unwrap();
     n
 }
@@ -135,7 +135,7 @@ impl Followed {
         })?;
         let mut expected = 0;
         for (e, out) in &mut self.live {
-            let due = u64::from(e.born_round) + u64::from(PROMOTION_DELAY_ROUNDS) <= u64::from(round);
+            let due = u64::from(e.born_round) + SETTINGS.delay <= u64::from(round);
             let own: Vec<_> = handed.iter().filter(|cell| cell.0 == e.hash).cloned().collect();
             let once = if due && !*out { vec![(e.hash, e.idx, e.data.clone())] } else { vec![] };
             assert_eq!(own, once);
@@ -148,14 +148,14 @@ impl Followed {
 
     /// A box that is read in has every entry wait.
     fn read_in(&mut self) {
-        self.node = NodeBox::restore(&self.node.counters.serialize(), &self.journal, ROOM).unwrap().node_box;
+        self.node = NodeBox::restore(&self.node.counters.serialize(), &self.journal, ROOM, SETTINGS).unwrap().node_box;
         self.live.iter_mut().for_each(|(_, out)| *out = false);
     }
 }
 
 #[test]
 fn over_calls_made_up_at_random() {
-    let mut f = Followed { node: NodeBox::new(NextIdx::new(0), ROOM), journal: vec![], live: vec![] };
+    let mut f = Followed { node: NodeBox::new(NextIdx::new(0), ROOM, SETTINGS).unwrap(), journal: vec![], live: vec![] };
     let mut n = Numbers(3);
     let (mut handed, mut short, mut refused, mut read) = (0, 0, 0, 0);
     for id in 0..40_000 {

@@ -2,12 +2,15 @@
 use std::borrow::Cow;
 
 use selvaigo::{
-    CellNursery, CounterTransition, Counters, DeltaItems, HashBytes, Idx, NextIdx, NodeBox, NurseryDelta, NurseryEntryRecord,
-    NurseryParts, RefCount, Refusal, RestoreError, Room, decode_record, encode_items, encode_record, hash, raw, read_journal,
-    sys,
+    CellNursery, CounterTransition, Counters, DeltaItems, HashBytes, Idx, JournalError, NextIdx, NodeBox, NurseryDelta,
+    NurseryEntryRecord, NurseryParts, RefCount, Refusal, RestoreError, Room, Settings, ShrinkSettings, decode_record,
+    encode_items, encode_record, hash, raw, read_journal, sys,
 };
 
 const ROOM: Room = Room { counts: 1, entries: 1, cell_bytes: 1 };
+const SETTINGS: Settings = Settings::STANDARD;
+const SHRINK: ShrinkSettings = ShrinkSettings::STANDARD;
+const DELAY: u64 = SETTINGS.delay;
 
 fn change(idx: u64, old_raw: u64, new_raw: u64) -> CounterTransition {
     CounterTransition { idx: Idx::new(idx), old_raw, new_raw }
@@ -20,7 +23,7 @@ fn insert(tag: u8, data: Vec<u8>) -> NurseryDelta {
 
 // Counters at next 2 with live total 1 and count 2 at index 0, in a table of so much room.
 fn counters(room: usize) -> Counters {
-    let mut c = Counters::new(NextIdx::new(2), room);
+    let mut c = Counters::new(NextIdx::new(2), room, SHRINK).unwrap();
     c.apply_batch(&[change(0, 0, 2)]).unwrap();
     c
 }
@@ -43,9 +46,9 @@ fn read(version: u8, [next, live]: [u64; 2], payload: &[u8], rest: &[u8], room: 
     snapshot.extend_from_slice(&[vec![8], vec![0; 15]].concat().repeat(7));
     snapshot.extend_from_slice(rest);
     let (mut state, mut counts) = ([7; sys::STATE], vec![9; 2 * room]);
-    let refusal = raw::deserialize_trusted(&snapshot, &mut state, &mut counts).unwrap_err();
+    let refusal = raw::deserialize_trusted(&snapshot, SHRINK, &mut state, &mut counts).unwrap_err();
     assert!(state == [7; sys::STATE] && counts == vec![9; 2 * room]);
-    assert_eq!(Counters::deserialize_trusted(&snapshot, room).unwrap_err(), refusal);
+    assert_eq!(Counters::deserialize_trusted(&snapshot, room, SHRINK).unwrap_err(), refusal);
     refusal.number()
 }
 
@@ -61,7 +64,7 @@ fn record(len: u64, payload: &[u8]) -> Vec<u8> {
 
 #[test]
 fn numbers_and_words() {
-    let numbers: Vec<u8> = (1..=22).chain([25]).collect();
+    let numbers: Vec<u8> = (1..=23).chain([25]).collect();
     assert_eq!(Refusal::ALL.map(Refusal::number), numbers[..]);
     for refusal in Refusal::ALL {
         assert_eq!(Refusal::from_number(refusal.number()), Some(refusal));
@@ -73,7 +76,7 @@ fn numbers_and_words() {
 
 #[test]
 fn the_counters_one_to_six() {
-    let mut c = Counters::new(NextIdx::new(u64::MAX), 0);
+    let mut c = Counters::new(NextIdx::new(u64::MAX), 0, SHRINK).unwrap();
     assert_eq!(c.alloc_idx().unwrap_err().number(), 1);
     assert_eq!(c.next_idx().get(), u64::MAX);
     assert_eq!(counters(1).get(Idx::new(2)).unwrap_err().number(), 2);
@@ -89,8 +92,8 @@ fn snapshots_six_to_eleven() {
     let empty = [0; 8];
     assert_eq!(read(1, [1, 1], &empty, &large(0, 257), 0), 6);
     assert_eq!(read(0, [0, 0], &empty, &[], 0), 7);
-    assert_eq!(Counters::deserialize_trusted(&[], 0).unwrap_err().number(), 8);
-    assert_eq!(Counters::deserialize_trusted(&[1; 16], 0).unwrap_err().number(), 8);
+    assert_eq!(Counters::deserialize_trusted(&[], 0, SHRINK).unwrap_err().number(), 8);
+    assert_eq!(Counters::deserialize_trusted(&[1; 16], 0, SHRINK).unwrap_err().number(), 8);
     assert_eq!(read(1, [0, 0], &[0; 9], &[], 0), 9);
     assert_eq!(read(1, [1, 1], &empty, &[0; 15], 1), 10);
     assert_eq!(read(1, [1, 1], &empty, &large(0, 256), 1), 10);
@@ -105,7 +108,7 @@ fn fewer_cells_than_counts_twenty_five() {
 
 #[test]
 fn the_nursery_twelve_to_fifteen() {
-    let mut n = CellNursery::new(1, 2);
+    let mut n = CellNursery::new(1, 2, DELAY).unwrap();
     n.apply_commit(&insert(1, vec![1])).unwrap();
     let before = n.clone().into_parts();
     assert_eq!(n.apply_commit(&insert(1, vec![])).unwrap_err().number(), 12);
@@ -150,7 +153,7 @@ fn records_twenty_two() {
     let mut out = [7; 89];
     let (len, _) = encode_items(0, &items, &mut out).unwrap();
     assert_eq!((len, out[88], decode_record(&out).unwrap().items.bytes.len()), (88, 7, 32));
-    assert_eq!(CellNursery::new(0, 0).apply_items(&items), Ok(()));
+    assert_eq!(CellNursery::new(0, 0, DELAY).unwrap().apply_items(&items), Ok(()));
 }
 
 #[test]
@@ -162,14 +165,29 @@ fn journals_twenty_one() {
     for (bad, number) in bad {
         let first = encode_record(0, &insert(1, vec![1])).unwrap();
         let journal = [first.bytes(), &bad].concat();
-        let damaged = read_journal(&journal, 1, 1).unwrap_err();
+        let error = read_journal(&journal, 1, 1, DELAY).unwrap_err();
+        let damaged = error.damaged().unwrap();
+        assert_eq!((error, error.number()), (JournalError::Damaged(damaged), 21));
         assert_eq!((damaged.number(), damaged.refusal.number()), (21, number));
         assert_eq!((damaged.records, damaged.place), (1, first.bytes().len()));
-        let restored = NodeBox::restore(&counters(1).serialize(), &journal, ROOM).unwrap_err();
+        let restored = NodeBox::restore(&counters(1).serialize(), &journal, ROOM, SETTINGS).unwrap_err();
         assert_eq!((restored, restored.number()), (RestoreError::Journal(damaged), 21));
     }
-    let restored = NodeBox::restore(&[], &[0; 40], ROOM).unwrap_err();
+    let restored = NodeBox::restore(&[], &[0; 40], ROOM, SETTINGS).unwrap_err();
     assert_eq!((restored, restored.number()), (RestoreError::Snapshot(Refusal::TornSnapshot), 8));
+}
+
+#[test]
+fn settings_twenty_three() {
+    let (none, long) = (Settings { shrink_base: 0, ..SETTINGS }, Settings { delay: 10_001, ..SETTINGS });
+    for bad in [none, long] {
+        assert_eq!(NodeBox::new(NextIdx::new(0), ROOM, bad).unwrap_err().number(), 23);
+        // Before a snapshot and a journal that are refused too.
+        let restored = NodeBox::restore(&[], &record(15, &[0; 15]), ROOM, bad).unwrap_err();
+        assert_eq!((restored, restored.number()), (RestoreError::Setting(Refusal::BadSetting), 23));
+    }
+    assert_eq!(Counters::new(NextIdx::new(0), 1, none.shrink()).unwrap_err().number(), 23);
+    assert_eq!(CellNursery::new(1, 1, long.delay).unwrap_err().number(), 23);
 }
 
 #[test]
@@ -189,7 +207,7 @@ fn broken_tables() {
     assert_eq!(changed, state);
     assert_eq!(Counters::from_parts(state, counts).unwrap_err(), Refusal::Broken);
 
-    let mut n = CellNursery::new(2, 2);
+    let mut n = CellNursery::new(2, 2, DELAY).unwrap();
     n.apply_commit(&insert(1, vec![1])).unwrap();
     let parts = n.into_parts();
     // The last three: a waiting row that names no entry, one with another round than its entry's, two that name the same one.
@@ -221,7 +239,7 @@ fn broken_tables() {
 fn what_is_no_batch_and_no_delta() {
     let (mut state, mut counts) = counters(2).into_parts();
     assert_eq!(raw::apply_batch(&mut state, &mut counts, &[1, 0]), Err(Refusal::Broken));
-    let mut n = CellNursery::new(2, 2);
+    let mut n = CellNursery::new(2, 2, DELAY).unwrap();
     for wide in [false, true] {
         let short = DeltaItems { wide, inserts: 1, removes: 0, bytes: Cow::Borrowed(&[0; 45]) };
         assert_eq!(n.apply_items(&short), Err(Refusal::Broken));
@@ -232,18 +250,18 @@ fn what_is_no_batch_and_no_delta() {
 #[test]
 fn made_and_read_in_over_anything() {
     let (mut state, mut counts) = ([7; sys::STATE], vec![7; 5]);
-    raw::new(NextIdx::new(3), &mut state, &mut counts);
+    raw::new(NextIdx::new(3), SHRINK, &mut state, &mut counts).unwrap();
     assert_eq!(Counters::from_parts(state, counts.into()).unwrap().next_idx(), NextIdx::new(3));
     let (mut state, mut counts) = ([7; sys::STATE], vec![7; 5]);
-    assert_eq!(raw::deserialize_trusted(&counters(1).serialize(), &mut state, &mut counts), Ok(()));
+    assert_eq!(raw::deserialize_trusted(&counters(1).serialize(), SHRINK, &mut state, &mut counts), Ok(()));
     assert_eq!(Counters::from_parts(state, counts.into()).unwrap().get(Idx::new(0)), Ok(RefCount::new(2)));
     let other = NurseryParts { nursery: [7; sys::NURSERY], entries: [7; 9].into(), waiting: [7; 6].into(), cells: [7; 3].into() };
     let mut p = other.clone();
-    raw::nursery_new(&mut p.nursery, &mut p.entries, &mut p.waiting, &mut p.cells);
+    raw::nursery_new(DELAY, &mut p.nursery, &mut p.entries, &mut p.waiting, &mut p.cells).unwrap();
     assert!(CellNursery::from_parts(p).unwrap().is_empty());
     let mut p = other;
     let journal = [encode_record(0, &insert(1, vec![1])).unwrap().bytes(), &[0; 39]].concat();
-    let end = raw::read_journal(&journal, &mut p.nursery, &mut p.entries, &mut p.waiting, &mut p.cells).unwrap();
+    let end = raw::read_journal(&journal, DELAY, &mut p.nursery, &mut p.entries, &mut p.waiting, &mut p.cells).unwrap();
     assert_eq!((end.applied, end.refusal.map(Refusal::number)), (1, Some(16)));
     assert_eq!(CellNursery::from_parts(p).unwrap().len(), 1);
 }
@@ -261,13 +279,14 @@ fn values_beside_a_refusal_are_zeros() {
     assert_eq!((answer, figures, hash), (16, [0; 8], [0; 32]));
     // A record that would be taken, and a damaged one.
     let journal = [record(16, &[0; 16]), record(15, &[0; 15])].concat();
-    let (mut nursery, mut read) = ([9; 3], [9; 3]);
+    let (mut nursery, mut read) = ([9; sys::NURSERY], [9; 3]);
     let (mut entries, mut waiting, mut cells) = ([9; 8], [9; 5], [9; 1]);
     // SAFETY: slices and arrays.
     let answer = unsafe {
         sys::selvaigo_read_journal(
             journal.as_ptr(),
             journal.len(),
+            DELAY,
             &mut nursery,
             entries.as_mut_ptr(),
             entries.len(),
@@ -279,7 +298,7 @@ fn values_beside_a_refusal_are_zeros() {
         )
     };
     assert_eq!((answer, read), (21, [0; 3]));
-    assert_eq!((nursery, entries, waiting, cells), ([9; 3], [9; 8], [9; 5], [9; 1]));
+    assert_eq!((nursery, entries, waiting, cells), ([9; sys::NURSERY], [9; 8], [9; 5], [9; 1]));
     // A conversion whose first output, or whose second, is too short by a byte.
     let journal = record(17, &[0; 17]);
     for (out_len, dropped_len) in [(55, 16), (56, 15)] {
@@ -303,5 +322,5 @@ fn values_beside_a_refusal_are_zeros() {
 #[test]
 #[should_panic(expected = "more room than a slice can have")]
 fn room_is_counted_with_checks() {
-    let _ = CellNursery::new(usize::MAX / 4, 0);
+    let _ = CellNursery::new(usize::MAX / 4, 0, DELAY);
 }

@@ -1,8 +1,18 @@
 //! The worked lines of document 01, boxes that go on from them, and batches taken back (document 02, P7).
 use selvaigo::{
     CellNursery, CounterTransition, Counters, HashBytes, Idx, NextIdx, NodeBox, NurseryDelta, NurseryEntryRecord, RefCount,
-    Refusal, Room, adjust_shrink_threshold, decode_record, encode_record, hash, read_journal, should_shrink,
+    Refusal, Room, Settings, adjust_shrink_threshold, decode_record, encode_record, hash, read_journal, should_shrink,
 };
+
+const SETTINGS: Settings = Settings::STANDARD;
+
+fn counters(next: u64, room: usize) -> Counters {
+    Counters::new(NextIdx::new(next), room, SETTINGS.shrink()).unwrap()
+}
+
+fn nursery(entries: usize, cell_bytes: usize) -> CellNursery {
+    CellNursery::new(entries, cell_bytes, SETTINGS.delay).unwrap()
+}
 
 fn change(idx: u64, old_raw: u64, new_raw: u64) -> CounterTransition {
     CounterTransition { idx: Idx::new(idx), old_raw, new_raw }
@@ -32,20 +42,20 @@ fn a_fresh_snapshot() {
     let set = [vec![8], vec![0; 15]].concat();
     let expected = [vec![1], vec![0; 16], set.repeat(8)].concat();
     assert_eq!(expected.len(), 145);
-    assert_eq!(Counters::new(NextIdx::new(0), 0).serialize(), expected);
+    assert_eq!(counters(0, 0).serialize(), expected);
 }
 
 #[test]
 fn snapshots_of_one_count() {
     for (count, len) in [(2, 167), (256, 321), (257, 161)] {
-        let mut c = Counters::new(NextIdx::new(4), 1);
+        let mut c = counters(4, 1);
         c.apply_batch(&[change(3, 0, count)]).unwrap();
         let snapshot = c.serialize();
         assert_eq!((snapshot.len(), c.serialized_len()), (len, len));
         if count == 2 {
             assert_eq!(snapshot[25..55], hex("0100000000000000 00000000 3a300000 01000000 00000000 10000000 0300"));
         }
-        let back = Counters::deserialize_trusted(&snapshot, 1).unwrap();
+        let back = Counters::deserialize_trusted(&snapshot, 1, SETTINGS.shrink()).unwrap();
         assert_eq!((back.state(), back.counts()), (c.state(), c.counts()));
         assert_eq!(back.get(Idx::new(3)), Ok(RefCount::new(count)));
         assert_eq!(back.get(Idx::new(2)), Ok(RefCount::ONE));
@@ -54,7 +64,7 @@ fn snapshots_of_one_count() {
 
 #[test]
 fn between_the_tiers() {
-    let mut c = Counters::new(NextIdx::new(4), 1);
+    let mut c = counters(4, 1);
     c.apply_batch(&[change(3, 0, 256)]).unwrap();
     c.apply_batch(&[change(3, 256, 257)]).unwrap();
     assert_eq!(c.maintenance().small_removed_since_shrink, [1; 8]);
@@ -68,7 +78,7 @@ fn between_the_tiers() {
 
 #[test]
 fn what_a_batch_drops_and_takes() {
-    let mut c = Counters::new(NextIdx::new(4), 1);
+    let mut c = counters(4, 1);
     let before = c.clone();
     c.apply_batch(&[change(9, 7, 7)]).unwrap();
     assert_eq!((c.state(), c.counts()), (before.state(), before.counts()));
@@ -83,7 +93,7 @@ fn what_a_batch_drops_and_takes() {
 
 #[test]
 fn batches_taken_back() {
-    let mut c = Counters::new(NextIdx::new(4), 2);
+    let mut c = counters(4, 2);
     let before = c.clone();
     c.apply_batch(&[change(1, 0, 3), change(0, 0, 1), change(9, 7, 7)]).unwrap();
     assert_eq!((c.live_cells(), c.stored()), (2, 1));
@@ -104,7 +114,7 @@ fn batches_taken_back() {
 
 #[test]
 fn a_batch_taken_back_in_a_full_table() {
-    let mut c = Counters::new(NextIdx::new(4), 1);
+    let mut c = counters(4, 1);
     c.apply_batch(&[change(0, 0, 3)]).unwrap();
     let snapshot = c.serialize();
     assert_eq!(c.apply_batch(&[change(1, 0, 4)]), Err(Refusal::TableFull));
@@ -117,7 +127,7 @@ fn a_batch_taken_back_in_a_full_table() {
 
 #[test]
 fn the_lines_of_boxrun() {
-    let mut c = Counters::new(NextIdx::new(0), 1_024);
+    let mut c = counters(0, 1_024);
     assert_eq!((c.alloc_idx(), c.alloc_idx()), (Ok(Idx::new(0)), Ok(Idx::new(1))));
     assert_eq!(c.apply_batch(&[change(1, 0, 3), change(0, 0, 1)]), Ok(()));
     assert_eq!((c.next_idx().get(), c.live_cells()), (2, 2));
@@ -127,7 +137,7 @@ fn the_lines_of_boxrun() {
 
 #[test]
 fn drains_by_round_and_arrival() {
-    let mut n = CellNursery::new(4, 16);
+    let mut n = nursery(4, 16);
     n.apply_commit(&inserts(vec![insert(2, 20, 1, b"b"), insert(9, 90, 0, b"i"), insert(1, 10, 0, b"a")])).unwrap();
     assert_eq!(promoted(&mut n, 99), []);
     assert_eq!(promoted(&mut n, 100), [(HashBytes([9; 32]), 90, b"i".to_vec()), (HashBytes([1; 32]), 10, b"a".to_vec())]);
@@ -138,7 +148,7 @@ fn drains_by_round_and_arrival() {
 
 #[test]
 fn inserts_precede_removes() {
-    let mut n = CellNursery::new(2, 4);
+    let mut n = nursery(2, 4);
     n.apply_commit(&NurseryDelta { inserts: vec![insert(1, 10, 7, b"aa")], removes: vec![HashBytes([1; 32])] }).unwrap();
     assert!(n.is_empty() && n.get_idx(&HashBytes([1; 32])).is_none());
     n.apply_commit(&inserts(vec![insert(1, 11, 7, b"abcd")])).unwrap();
@@ -148,12 +158,12 @@ fn inserts_precede_removes() {
 
 #[test]
 fn the_tables_of_one_entry() {
-    let mut n = CellNursery::new(1, 4);
+    let mut n = nursery(1, 4);
     let mut one = [0; 32];
     one[31] = 1;
     let entry = NurseryEntryRecord { hash: HashBytes(one), idx: Idx::new(10), born_round: 7, data: vec![0xaa, 0xbb] };
     n.apply_commit(&inserts(vec![entry.clone()])).unwrap();
-    assert_eq!(n.nursery(), &[1, 1, 2]);
+    assert_eq!(n.nursery(), &[1, 1, 2, 100]);
     assert_eq!(n.entries(), [0, 0, 0, 1, 10, 7, 0, 2]);
     assert_eq!(n.waiting(), [7, 0, 0, 0, 1]);
     assert_eq!(n.cells(), [0xaa, 0xbb, 0, 0]);
@@ -194,10 +204,11 @@ fn maintenance() {
     assert!(should_shrink(393_216, 131_072, 131_072));
     assert!(!should_shrink(393_217, 131_072, 131_072));
     assert!(should_shrink(0, 1, 65_536) && !should_shrink(0, 0, 0));
-    assert_eq!(adjust_shrink_threshold(131_072, 1_048_575), 262_144);
-    assert_eq!(adjust_shrink_threshold(2_097_152, 0), 2_097_152);
-    assert_eq!(adjust_shrink_threshold(2_097_152, 1_048_576), 131_072);
-    let mut c = Counters::new(NextIdx::new(1), 1);
+    let threshold = |min, saved| adjust_shrink_threshold(min, saved, SETTINGS.shrink());
+    assert_eq!(threshold(131_072, 1_048_575), 262_144);
+    assert_eq!(threshold(2_097_152, 0), 2_097_152);
+    assert_eq!(threshold(2_097_152, 1_048_576), 131_072);
+    let mut c = counters(1, 1);
     c.apply_batch(&[change(0, 0, 2)]).unwrap();
     c.apply_batch(&[change(0, 2, 1)]).unwrap();
     let shrunk = c.shrink_if_needed(0);
@@ -209,7 +220,7 @@ fn maintenance() {
 #[test]
 fn a_box_is_read_in_again() {
     let room = Room { counts: 4, entries: 4, cell_bytes: 64 };
-    let (mut node, mut journal) = (NodeBox::new(NextIdx::new(0), room), Vec::new());
+    let (mut node, mut journal) = (NodeBox::new(NextIdx::new(0), room, SETTINGS).unwrap(), Vec::new());
     let idx = node.counters.alloc_idx().unwrap();
     node.counters.apply_batch(&[change(idx.get(), 0, 300)]).unwrap();
     node.commit(1, &inserts(vec![insert(5, 0, 3, b"five"), insert(4, 0, 3, b"four")]), &mut journal).unwrap();
@@ -220,12 +231,12 @@ fn a_box_is_read_in_again() {
     assert_eq!(journal.len(), first);
     node.commit(4, &NurseryDelta { inserts: vec![], removes: vec![HashBytes([5; 32])] }, &mut journal).unwrap();
 
-    let whole = NodeBox::restore(&node.counters.serialize(), &journal, room).unwrap();
+    let whole = NodeBox::restore(&node.counters.serialize(), &journal, room, SETTINGS).unwrap();
     assert_eq!((whole.journal.applied, whole.journal.place, whole.journal.refusal), (2, journal.len(), None));
     assert_eq!(whole.node_box.nursery.snapshot_entries(), node.nursery.snapshot_entries());
     assert_eq!(whole.node_box.counters.serialize(), node.counters.serialize());
 
-    let (cut, end) = read_journal(&journal[..journal.len() - 1], room.entries, room.cell_bytes).unwrap();
+    let (cut, end) = read_journal(&journal[..journal.len() - 1], room.entries, room.cell_bytes, SETTINGS.delay).unwrap();
     assert_eq!((end.applied, end.place, end.refusal), (1, first, Some(Refusal::ShortRecord)));
     assert_eq!(cut.len(), 2);
 }
