@@ -225,9 +225,8 @@ impl Sides {
     }
 
     fn totals(&self) -> Compared {
-        let wanted = self.counters.totals();
-        same("port", "counters' record", self.port.counters.state(), &wanted)?;
-        same("original", "counters' totals", &self.original.totals(), &wanted)
+        same("port", "counters' record", self.port.counters.state(), &self.counters.record())?;
+        same("original", "counters' totals", &self.original.totals(), &self.counters.totals())
     }
 
     fn new_counters(&mut self, next: u64) -> Compared {
@@ -308,7 +307,7 @@ impl Sides {
 
     fn adjust(&mut self, min: u64, saved: u64) -> Compared {
         let wanted = definition::adjust(min, saved);
-        same("port", "threshold", &selvaigo::adjust_shrink_threshold(min, saved), &wanted)?;
+        same("port", "threshold", &Port::adjust_shrink_threshold(min, saved), &wanted)?;
         same("original", "threshold", &Original::adjust_shrink_threshold(min, saved), &wanted)
     }
 
@@ -382,7 +381,7 @@ impl Sides {
         let wanted = Counters::load(bytes, self.sizes.counts / 2);
         let port = self.port.load_snapshot(bytes);
         let said = port.as_ref().map(|(c, old)| (*c.state(), *old)).map_err(|number| *number);
-        same("port", "loading", &said, &wanted.as_ref().map(|(c, old)| (c.totals(), *old)).map_err(|e| e.0))?;
+        same("port", "loading", &said, &wanted.as_ref().map(|(c, old)| (c.record(), *old)).map_err(|e| e.0))?;
         let (Ok((port, _)), Ok((defined, old_total))) = (port, wanted) else { return Ok(None) };
         same("port", "loaded counts", &port.iter().map(|(idx, n)| (idx.get(), n.get())).collect(), &defined.counts)?;
         self.tally.loaded[usize::from(defined.live != old_total)] += 1;
@@ -415,8 +414,7 @@ impl Sides {
     }
 
     fn nursery_totals(&self) -> Compared {
-        let n = &self.nursery;
-        let wanted = [n.len(), n.waits(), n.cell_bytes].map(|x| x as u64);
+        let wanted = self.nursery.record();
         same("port", "nursery's record", self.port.nursery.nursery(), &wanted)?;
         same("original", "nursery's totals", &self.original.nursery_totals(), &[wanted[0], wanted[2]])
     }

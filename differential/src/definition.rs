@@ -1,5 +1,5 @@
-//! Document 01 in plain Rust, with P1, P4 and P10 of document 02: what each call has to answer. The generator takes from it what keeps the callers' contract, and the
-//! comparison what the port has to say where the original panics or takes what it shouldn't.
+//! Document 01 in plain Rust, with P1, P4 and P10 of document 02, and with P5's settings at document 01's numbers: what each call has to answer. The generator
+//! takes from it what keeps the callers' contract, and the comparison what the port has to say where the original panics or takes what it shouldn't.
 use std::collections::{BTreeMap, BTreeSet};
 
 use crate::roaring::{self, Broken, Bytes, Form};
@@ -18,7 +18,11 @@ pub struct Counters {
     members: [u64; 8],
 }
 
-const BASE: u64 = 131_072;
+/// The settings of every box, port's and definition's: those that the original has fixed, as it has no others.
+pub const DELAY: u32 = 100;
+pub const SHRINK_BASE: u64 = 131_072;
+pub const SHRINK_MAX: u64 = 2_097_152;
+pub const GOOD_SAVE: u64 = 1_048_576;
 
 /// Count - 1 where the count is a small one.
 fn code(count: u64) -> u64 {
@@ -30,13 +34,13 @@ pub fn should_shrink(alive: u64, removed: u64, min: u64) -> bool {
 }
 
 pub fn adjust(min: u64, saved: u64) -> u64 {
-    if saved >= 1_048_576 { BASE } else { (2 * u128::from(min)).min(2_097_152) as u64 }
+    if saved >= GOOD_SAVE { SHRINK_BASE } else { (2 * u128::from(min)).min(SHRINK_MAX.into()) as u64 }
 }
 
 impl Counters {
     pub fn new(next: u64) -> Self {
         let mut figures = [0; 10];
-        figures[9] = BASE;
+        figures[9] = SHRINK_BASE;
         Counters { next, live: 0, counts: BTreeMap::new(), figures, members: [0; 8] }
     }
 
@@ -44,6 +48,14 @@ impl Counters {
         let mut all = [0; 13];
         all[..3].copy_from_slice(&[self.next, self.live, self.counts.len() as u64]);
         all[3..].copy_from_slice(&self.figures);
+        all
+    }
+
+    /// The port's record: totals and settings.
+    pub fn record(&self) -> [u64; 16] {
+        let mut all = [0; 16];
+        all[..13].copy_from_slice(&self.totals());
+        all[13..].copy_from_slice(&[SHRINK_BASE, SHRINK_MAX, GOOD_SAVE]);
         all
     }
 
@@ -259,6 +271,11 @@ impl Nursery {
         self.waiting.len()
     }
 
+    /// The port's record: totals and the delay.
+    pub fn record(&self) -> [u64; 4] {
+        [self.len() as u64, self.waits() as u64, self.cell_bytes as u64, DELAY.into()]
+    }
+
     pub fn has(&self, hash: &Hash) -> bool {
         self.entries.contains_key(hash)
     }
@@ -310,7 +327,7 @@ impl Nursery {
 
     /// What is due, and how many bytes it takes in the port's output.
     pub fn due(&self, round: u32) -> (Drained, usize) {
-        let Some(last) = round.checked_sub(100) else { return (Vec::new(), 0) };
+        let Some(last) = round.checked_sub(DELAY) else { return (Vec::new(), 0) };
         let due = self.waiting.range(..=(last, u64::MAX)).map(|(_, hash)| {
             let e = &self.entries[hash];
             (*hash, e.idx, e.cell.clone())
@@ -321,7 +338,7 @@ impl Nursery {
     }
 
     pub fn drain(&mut self, round: u32) {
-        let Some(last) = round.checked_sub(100) else { return };
+        let Some(last) = round.checked_sub(DELAY) else { return };
         for hash in self.waiting.range(..=(last, u64::MAX)).map(|(_, hash)| hash) {
             self.entries.get_mut(hash).unwrap().arrival = None;
         }

@@ -2,7 +2,7 @@
 use std::collections::BTreeSet;
 
 use crate::compare::Sides;
-use crate::definition::{Counters, Nursery};
+use crate::definition::{Counters, DELAY, GOOD_SAVE, Nursery, SHRINK_BASE, SHRINK_MAX};
 use crate::roaring::Form;
 use crate::steps::{Delta, Hash, Insert, Room, Sizes, Step};
 use crate::storage::shard_state::original::Original;
@@ -184,7 +184,10 @@ impl Run {
             4 => self.figures(&sides.counters),
             5 => Step::Shrink(self.saved()),
             6 => self.should_shrink(),
-            7 => Step::Adjust([self.r.pick(&[0, 1, 131_072, 1 << 20, (1 << 20) + 1, 1 << 21, u64::MAX]), self.saved()]),
+            7 => {
+                let half = SHRINK_MAX / 2;
+                Step::Adjust([self.r.pick(&[0, 1, SHRINK_BASE, half, half + 1, SHRINK_MAX, u64::MAX]), self.saved()])
+            }
             8 => Step::Snapshot(self.r.room()),
             9 => Step::ReadBack,
             10 => Step::Read(self.snapshot(&sides.counters)),
@@ -306,16 +309,17 @@ impl Run {
     }
 
     fn saved(&mut self) -> u64 {
-        self.r.pick(&[0, 1, (1 << 20) - 1, 1 << 20, (1 << 20) + 1, u64::MAX])
+        self.r.pick(&[0, 1, GOOD_SAVE - 1, GOOD_SAVE, GOOD_SAVE + 1, u64::MAX])
     }
 
     fn figures(&mut self, c: &Counters) -> Step {
         let third = c.counts.len() as u64 / 3;
-        let marks = [0, 1, third, third + 1, 65_535, 65_536, 131_071, 131_072, 262_144, 1 << 21, 1 << 40];
+        let (base, max) = (SHRINK_BASE, SHRINK_MAX);
+        let marks = [0, 1, third, third + 1, 65_535, 65_536, base - 1, base, 2 * base, max, 1 << 40];
         let mut all = [0; 10];
         all.iter_mut().for_each(|f| *f = self.r.pick(&marks));
         if self.r.chance(60) {
-            all[9] = self.r.pick(&[0, 1, third, 131_072, 262_144, 1 << 20, 1 << 21]);
+            all[9] = self.r.pick(&[0, 1, third, base, 2 * base, max / 2, max]);
         }
         Step::Figures(all)
     }
@@ -458,10 +462,10 @@ impl Run {
     fn drain(&mut self, n: &Nursery) -> Step {
         let born = n.some_round(self.r.size(n.len().max(1))).unwrap_or(self.round);
         let round = match self.r.below(10) {
-            0 => self.r.pick(&[0, 98, 99, 100, 101, u32::MAX]),
+            0 => self.r.pick(&[0, DELAY - 2, DELAY - 1, DELAY, DELAY + 1, u32::MAX]),
             1 => self.r.next() as u32,
-            2..5 => self.round.saturating_add(99 + self.r.below(4) as u32),
-            _ => born.saturating_add(self.r.pick(&[99, 100, 100, 101])),
+            2..5 => self.round.saturating_add(DELAY - 1 + self.r.below(4) as u32),
+            _ => born.saturating_add(self.r.pick(&[DELAY - 1, DELAY, DELAY, DELAY + 1])),
         };
         Step::Drain(round, self.r.room())
     }

@@ -2,11 +2,16 @@
 //! checked, which have to agree; the others are made in the form that the run names. A checked call's tables are judged again after it.
 use selvaigo::{
     CellNursery, CounterTransition, Counters, DeltaItems, Dropped, HashBytes, Idx, NextIdx, NurseryParts, PromotedCell, Refusal,
-    raw, sys,
+    ShrinkSettings, raw, sys,
 };
 
-use crate::definition::{Drained, Ended, Refused, items};
+use crate::definition::{self, Drained, Ended, Refused, items};
 use crate::steps::{Delta, Hash, Sizes};
+
+/// The definition's settings.
+const DELAY: u64 = definition::DELAY as u64;
+const SHRINK: ShrinkSettings =
+    ShrinkSettings { base: definition::SHRINK_BASE, max: definition::SHRINK_MAX, good_save: definition::GOOD_SAVE };
 
 pub struct Port {
     held: bool,
@@ -55,7 +60,7 @@ fn words(batch: &[[u64; 3]]) -> Vec<u64> {
 /// Tables of any content, for calls that take such.
 fn unread(sizes: &Sizes) -> NurseryParts {
     NurseryParts {
-        nursery: [7; 3],
+        nursery: [7; sys::NURSERY],
         entries: vec![7; sizes.entries].into(),
         waiting: vec![7; sizes.waiting].into(),
         cells: vec![7; sizes.cells].into(),
@@ -64,39 +69,37 @@ fn unread(sizes: &Sizes) -> NurseryParts {
 
 impl Port {
     pub fn new(sizes: &Sizes) -> Self {
-        let (mut state, mut counts) = ([7; 13], vec![7; sizes.counts]);
-        raw::new(NextIdx::new(sizes.next), &mut state, &mut counts);
+        let (mut state, mut counts) = ([7; sys::STATE], vec![7; sizes.counts]);
+        raw::new(NextIdx::new(sizes.next), SHRINK, &mut state, &mut counts).unwrap();
         let counters = Counters::from_parts(state, counts.into()).unwrap();
         Port { held: sizes.held, counters, nursery: Self::empty(sizes) }
     }
 
     fn empty(sizes: &Sizes) -> CellNursery {
         let mut p = unread(sizes);
-        raw::nursery_new(&mut p.nursery, &mut p.entries, &mut p.waiting, &mut p.cells);
+        raw::nursery_new(DELAY, &mut p.nursery, &mut p.entries, &mut p.waiting, &mut p.cells).unwrap();
         CellNursery::from_parts(p).unwrap()
     }
 
     /// A call over the record and the table of the counters, lent.
-    fn lend<T>(&mut self, call: impl FnOnce(&mut [u64; 13], &mut [u64]) -> Result<T, Refusal>) -> Refused<T> {
-        let (mut state, mut counts) = std::mem::replace(&mut self.counters, Counters::new(NextIdx::new(0), 0)).into_parts();
+    fn lend<T>(&mut self, call: impl FnOnce(&mut [u64; sys::STATE], &mut [u64]) -> Result<T, Refusal>) -> Refused<T> {
+        let none = Counters::new(NextIdx::new(0), 0, SHRINK).unwrap();
+        let (mut state, mut counts) = std::mem::replace(&mut self.counters, none).into_parts();
         let answer = call(&mut state, &mut counts);
         self.counters = Counters::from_parts(state, counts).expect("a state after a call");
         number(answer)
     }
 
     fn lend_nursery<T>(&mut self, call: impl FnOnce(&mut NurseryParts) -> Result<T, Refusal>) -> Refused<T> {
-        let mut parts = std::mem::replace(&mut self.nursery, CellNursery::new(0, 0)).into_parts();
+        let none = CellNursery::new(0, 0, DELAY).unwrap();
+        let mut parts = std::mem::replace(&mut self.nursery, none).into_parts();
         let answer = call(&mut parts);
         self.nursery = CellNursery::from_parts(parts).expect("a state after a call");
         number(answer)
     }
 
     pub fn new_counters(&mut self, next: u64) {
-        self.lend(|state, counts| {
-            raw::new(NextIdx::new(next), state, counts);
-            Ok(())
-        })
-        .unwrap();
+        self.lend(|state, counts| raw::new(NextIdx::new(next), SHRINK, state, counts)).unwrap();
     }
 
     pub fn alloc_idx(&mut self) -> Refused<u64> {
@@ -118,10 +121,14 @@ impl Port {
 
     pub fn set_figures(&mut self, figures: &[u64; 10]) {
         self.lend(|state, _| {
-            state[3..].copy_from_slice(figures);
+            state[3..13].copy_from_slice(figures);
             Ok(())
         })
         .unwrap();
+    }
+
+    pub fn adjust_shrink_threshold(min: u64, saved: u64) -> u64 {
+        selvaigo::adjust_shrink_threshold(min, saved, SHRINK)
     }
 
     pub fn shrink_if_needed(&mut self, saved: u64) -> [u64; 9] {
@@ -152,7 +159,7 @@ impl Port {
     pub fn deserialize_trusted(&mut self, snapshot: &[u8]) -> Refused<()> {
         self.lend(|state, counts| {
             let before = (counts.len() <= 4096).then(|| (*state, counts.to_vec()));
-            let answer = raw::deserialize_trusted(snapshot, state, counts);
+            let answer = raw::deserialize_trusted(snapshot, SHRINK, state, counts);
             if let (Some((s, c)), Err(_)) = (before, &answer) {
                 assert!(s == *state && c == counts, "a refused snapshot changes the port's tables");
             }
@@ -162,12 +169,12 @@ impl Port {
 
     /// The counters that are loaded into a table of any content, and the old total. A refusal leaves the words as they are, and beside it the total is 0.
     pub fn load_snapshot(&self, snapshot: &[u8]) -> Refused<(Counters, u64)> {
-        let (mut state, mut counts) = ([7; 13], vec![7; self.counters.counts().len()]);
-        let answer = raw::load_snapshot(snapshot, &mut state, &mut counts);
+        let (mut state, mut counts) = ([7; sys::STATE], vec![7; self.counters.counts().len()]);
+        let answer = raw::load_snapshot(snapshot, SHRINK, &mut state, &mut counts);
         if let Err(refusal) = answer {
             let zero = load_values(snapshot, &mut state, &mut counts) == (refusal.number(), [0]);
             assert!(zero, "the port's total beside a refused snapshot isn't 0");
-            assert!(state == [7; 13] && counts.iter().all(|w| *w == 7), "a refused snapshot changes the port's tables");
+            assert!(state == [7; sys::STATE] && counts.iter().all(|w| *w == 7), "a refused snapshot changes the port's tables");
         }
         let old_total = number(answer)?;
         Ok((Counters::from_parts(state, counts.into()).expect("a state after loading"), old_total))
@@ -230,7 +237,7 @@ impl Port {
 
     /// The damaged record for which new tables are refused; where it stands, as the scan gives it.
     pub fn damaged_record(journal: &[u8]) -> Option<Ended> {
-        let damaged = selvaigo::read_journal(journal, 0, 0).err()?;
+        let damaged = selvaigo::read_journal(journal, 0, 0, DELAY).err()?.damaged().expect("a delay in its range");
         assert_eq!(damaged.number(), 21);
         Some((damaged.records as usize, damaged.place, damaged.refusal.number()))
     }
@@ -251,7 +258,7 @@ impl Port {
     pub fn read_journal(&mut self, journal: &[u8], sizes: &Sizes, keep: bool) -> Refused<(Ended, Vec<u8>)> {
         let mut p = if keep { self.nursery.clone().into_parts() } else { unread(sizes) };
         let before = p.clone();
-        let answer = raw::read_journal(journal, &mut p.nursery, &mut p.entries, &mut p.waiting, &mut p.cells);
+        let answer = raw::read_journal(journal, DELAY, &mut p.nursery, &mut p.entries, &mut p.waiting, &mut p.cells);
         if let Err(refusal) = answer {
             let zeros = read_values(journal, &mut p) == (refusal.number(), [0; 3]);
             assert!(zeros, "the port's values beside a refused journal aren't zeros");
@@ -270,11 +277,21 @@ impl Port {
 }
 
 /// The answer to a snapshot that is loaded, and the total beside it, as they come.
-fn load_values(snapshot: &[u8], state: &mut [u64; 13], counts: &mut [u64]) -> (u8, [u64; 1]) {
+fn load_values(snapshot: &[u8], state: &mut [u64; sys::STATE], counts: &mut [u64]) -> (u8, [u64; 1]) {
     let mut old_total = [7];
     // SAFETY: slices and arrays, none of which overlaps another.
     let answer = unsafe {
-        sys::selvaigo_load_snapshot(snapshot.as_ptr(), snapshot.len(), state, counts.as_mut_ptr(), counts.len(), &mut old_total)
+        sys::selvaigo_load_snapshot(
+            snapshot.as_ptr(),
+            snapshot.len(),
+            SHRINK.base,
+            SHRINK.max,
+            SHRINK.good_save,
+            state,
+            counts.as_mut_ptr(),
+            counts.len(),
+            &mut old_total,
+        )
     };
     (answer, old_total)
 }
@@ -287,6 +304,7 @@ fn read_values(journal: &[u8], p: &mut NurseryParts) -> (u8, [u64; 3]) {
         sys::selvaigo_read_journal(
             journal.as_ptr(),
             journal.len(),
+            DELAY,
             &mut p.nursery,
             p.entries.as_mut_ptr(),
             p.entries.len(),

@@ -5,7 +5,7 @@ use std::sync::Arc;
 use rayon::ThreadPool;
 
 use crate::compare::{self, Sides};
-use crate::definition::{self, Counters, items};
+use crate::definition::{self, Counters, GOOD_SAVE, SHRINK_BASE, SHRINK_MAX, items};
 use crate::generate::Run;
 use crate::roaring::Broken;
 use crate::steps::{Delta, Hex, Insert, Sizes, Step};
@@ -14,6 +14,9 @@ use crate::storage::shard_state::original::Original;
 /// A box that the programs that replay the lists have room for.
 const SIZES: Sizes =
     Sizes { next: (1 << 32) + 3, counts: 128, entries: 256, waiting: 160, cells: 2_048, stripes: 1, held: false };
+
+/// The settings that the original has: they stand behind its figures in a record, and in a call for a threshold.
+const SETTINGS: [u64; 3] = [SHRINK_BASE, SHRINK_MAX, GOOD_SAVE];
 
 /// How many there are, beside those that look at what a step left.
 const STEPS: usize = 300;
@@ -101,7 +104,7 @@ fn call(step: &Step, journal: &[u8]) -> (u8, Vec<u8>) {
         Step::Encode(id, delta, _) => (0x22, [words(&[*id]), words(&counts(delta)), vec![0], items(delta, false)].concat()),
         Step::Decode(bytes) => (0x23, bytes.clone()),
         Step::ShouldShrink(all) => (0x25, words(all)),
-        Step::Adjust(all) => (0x26, words(all)),
+        Step::Adjust(all) => (0x26, [words(all), words(&SETTINGS)].concat()),
         other => unreachable!("{other}"),
     }
 }
@@ -153,7 +156,7 @@ fn written(bytes: &[u8]) -> Vec<u8> {
 
 /// Calls that look at what a step left, with their answers.
 fn looks(o: &Original, step: &Step) -> Vec<((u8, Vec<u8>), Vec<u8>)> {
-    let record = ((0x0a, Vec::new()), taken(&o.totals()));
+    let record = ((0x0a, Vec::new()), [taken(&o.totals()), words(&SETTINGS)].concat());
     let totals = ((0x16, Vec::new()), taken(&o.nursery_totals()));
     match step {
         Step::Allocate | Step::Batch(_) | Step::Delta(_) => vec![record, totals],

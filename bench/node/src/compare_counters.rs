@@ -3,11 +3,14 @@ use std::hint::black_box;
 use std::sync::Arc;
 
 use rayon::ThreadPool;
-use selvaigo::{CounterTransition, Refusal, raw};
+use selvaigo::{CounterTransition, Refusal, ShrinkSettings, raw, sys};
 
 use super::super::counters::{Counters, Idx, NextIdx};
 use super::{mixed, with_commas};
 use crate::measure::{Run, side};
+
+// The settings that the original has fixed.
+const STANDARD: ShrinkSettings = ShrinkSettings::STANDARD;
 
 pub fn lines(run: &Run, pool: &Arc<ThreadPool>) {
     for n in [1_000, 100_000, 1_000_000] {
@@ -53,8 +56,9 @@ fn both(pool: &Arc<ThreadPool>, n: u64, step: u64, free: usize) -> (Counters, se
     original_batch(&mut original, &(0..n).map(born).collect::<Vec<_>>());
     let mut table: Vec<u64> = (0..n).flat_map(|i| [i * step, count_of(i)]).collect();
     table.resize(table.len() + 2 * free, 0);
-    let mut state = [0; 13];
-    (state[0], state[1], state[2], state[12]) = (n * step, n, n, 131_072);
+    let empty = selvaigo::Counters::new(selvaigo::NextIdx::new(n * step), 0, STANDARD).unwrap();
+    let (mut state, _) = empty.into_parts();
+    (state[1], state[2]) = (n, n);
     (original, selvaigo::Counters::from_parts(state, table.into()).unwrap())
 }
 
@@ -93,10 +97,10 @@ fn snapshot_write(run: &Run, pool: &Arc<ThreadPool>, name: &str, n: u64, step: u
 }
 
 // The port's call on a snapshot: reading, or loading.
-type Reads = fn(&[u8], &mut [u64; 13], &mut [u64]) -> Result<(), Refusal>;
+type Reads = fn(&[u8], ShrinkSettings, &mut [u64; sys::STATE], &mut [u64]) -> Result<(), Refusal>;
 
-fn loads(snapshot: &[u8], state: &mut [u64; 13], counts: &mut [u64]) -> Result<(), Refusal> {
-    raw::load_snapshot(snapshot, state, counts).map(|_| ())
+fn loads(snapshot: &[u8], settings: ShrinkSettings, state: &mut [u64; sys::STATE], counts: &mut [u64]) -> Result<(), Refusal> {
+    raw::load_snapshot(snapshot, settings, state, counts).map(|_| ())
 }
 
 fn snapshot_read(run: &Run, pool: &Arc<ThreadPool>, name: &str, n: u64, step: u64) {
@@ -114,8 +118,8 @@ fn snapshot_read(run: &Run, pool: &Arc<ThreadPool>, name: &str, n: u64, step: u6
     let read: Reads = raw::deserialize_trusted;
     let lines = [("", ascending, read), (", large in no order", in_no_order, read), (", loaded", no_cells, loads as Reads)];
     for (how, bytes, reads) in lines {
-        let (mut state, mut table) = ([0; 13], vec![1; port.counts().len()]);
-        let ours = side(1, || black_box(reads(&bytes, &mut state, &mut table)).unwrap());
+        let (mut state, mut table) = ([0; sys::STATE], vec![1; port.counts().len()]);
+        let ours = side(1, || black_box(reads(&bytes, STANDARD, &mut state, &mut table)).unwrap());
         let theirs = side(1, || drop(black_box(Counters::deserialize_trusted(&bytes, pool.clone()).unwrap())));
         run.line(&format!("{what}{how}"), [ours, theirs]);
         assert!(&state == port.state() && table == port.counts(), "the port reads another state");

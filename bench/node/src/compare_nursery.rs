@@ -4,7 +4,7 @@ use std::num::NonZeroUsize;
 use std::sync::Arc;
 
 use rayon::ThreadPool;
-use selvaigo::{DeltaItems, NurseryParts, PromotedCell, raw};
+use selvaigo::{DeltaItems, NurseryParts, PromotedCell, Settings, raw};
 use tycho_types::cell::HashBytes;
 
 use super::super::cell_nursery::{CellNursery, NurseryDelta, NurseryEntryRecord};
@@ -48,7 +48,8 @@ fn port_of(entries: &[NurseryEntryRecord], free: usize) -> selvaigo::CellNursery
     }
     let mut waiting: Vec<u64> =
         entries.iter().flat_map(|e| std::iter::once(e.born_round.into()).chain(hash_words(&e.hash))).collect();
-    let nursery = [n, n, cells.len() as u64];
+    // The delay that the original has fixed.
+    let nursery = [n, n, cells.len() as u64, Settings::STANDARD.delay];
     rows.resize(rows.len() + 8 * free, 0);
     waiting.resize(waiting.len() + 5 * free, 0);
     cells.resize(cells.len() + 100 * free, 0);

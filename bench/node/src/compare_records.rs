@@ -4,7 +4,7 @@ use std::num::NonZeroUsize;
 use std::sync::Arc;
 
 use rayon::ThreadPool;
-use selvaigo::{DeltaItems, decode_record, encode_items, raw};
+use selvaigo::{DeltaItems, Settings, decode_record, encode_items, raw};
 
 use super::super::cell_nursery::{CellNursery, NurseryDelta};
 use super::super::nursery_persistence::format;
@@ -87,13 +87,14 @@ pub fn journal(run: &Run, pool: &Arc<ThreadPool>, records: u64, inserts: u64, ce
         nursery
     };
     let n = (records * inserts) as usize;
-    let (nursery, end) = selvaigo::read_journal(&journal, n, cell as usize * n).unwrap();
+    let delay = Settings::STANDARD.delay;
+    let (nursery, end) = selvaigo::read_journal(&journal, n, cell as usize * n, delay).unwrap();
     assert_eq!((end.applied, end.place, end.refusal), (records, journal.len(), None));
     same_entries(&original(), &nursery);
 
     let mut p = nursery.into_parts();
     let ours = side(1, || {
-        _ = black_box(raw::read_journal(&journal, &mut p.nursery, &mut p.entries, &mut p.waiting, &mut p.cells));
+        _ = black_box(raw::read_journal(&journal, delay, &mut p.nursery, &mut p.entries, &mut p.waiting, &mut p.cells));
     });
     let theirs = side(1, || drop(black_box(original())));
     run.line(&what, [ours, theirs]);
