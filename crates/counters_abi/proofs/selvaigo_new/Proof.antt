@@ -16,9 +16,7 @@ same-length c = search needs
 
 returns : tie.Need-returns
 unfolding newSaid
-returns c =
-    let f = c .before .before .before .before .before in
-    read-said (f .before .before .before .args .state .now) (f .new .ensures) (c .put-counters .ensures)
+returns c = read-said _ (c .before .before .before .before .before .new .ensures) (c .put-counters .ensures)
 
 pub selvaigo-new-spec : {M : Type 1} → statement M
 selvaigo-new-spec = tie.close (tie.spec new-requires put-counters-requires same-length returns)
