@@ -123,7 +123,7 @@ module _ (g : ShrinkSettings) (c : Counters) (t : List ℕ) (o : Outcome State) 
   unfolding laidOut
   laidOut-refused r e = rw e (refl, refl)
 
-  -- the record has the settings, of those of the record before it
+  -- the record has the settings, whatever the answer, where the one beside a refusal has them
   pub laidOut-settings : c .settings ≡ g → laidOut g c t o .result .counters .settings ≡ g
   unfolding laidOut laid recordOf
   laidOut-settings e = go o

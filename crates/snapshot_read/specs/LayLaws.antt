@@ -25,7 +25,7 @@ use Rattle.counters.specs.Layout as layout
 use Rattle.counters.specs.Layout.{countRow, roomOf, recordOf}
 use Rattle.counters.specs.CodingLaws.{count-lawful}
 use Rattle.counters.specs.Batch.{bound}
-use Rattle.counters.specs.Calls.{Changed, laid, laidOut, effect, newEffect, noCounters, laidIn}
+use Rattle.counters.specs.Calls.{Changed, laid, laidOut, effect, recordEffect, noCounters, laidIn}
 use Rattle.counters.specs.CallLaws.{with-ranged, with-bad}
 use Rattle.counters.specs.Maintenance.{inRange}
 use Rattle.snapshot.specs.Read.{parseSnapshot, readSnapshot, raised}
@@ -126,7 +126,7 @@ module _ (s t u : List ℕ) (p : Plan) (e : u ≡ paste t 0 (zeros (length t)) (
   lay-filled q = (filled ∙ ap zeros (sym length-filled), rw length-filled q)
 
   pub lay-laid : (g : ShrinkSettings) (live : ℕ) {w : List ℕ} {c : Counters} → Planned s (length t / 2) p → w ≡ tableOf countRow (length u) (countsOf s (p .end) (p .large))
-      → c ≡ freshRecord g (p .next) live (p .rows) → newEffect c w ≡ laid g (length t) (plannedState (g .base) s p live)
+      → c ≡ freshRecord g (p .next) live (p .rows) → recordEffect c w ≡ laid g (length t) (plannedState (g .base) s p live)
   unfolding laid recordOf layout.tableOf freshMaintenance
   lay-laid g live q f h = rw (f, length-filled, h, q .rows)
 
@@ -160,13 +160,13 @@ module _ (g : ShrinkSettings) (s t : List ℕ) (ranged : inRange g ≡ true) whe
     call-few h =
         rw (with-ranged g (readSnapshot (g .base) (roomOf t) s) ranged, ← d .outcome (g .base), ← d .plan .rows, lt-ltb (p .live) (p .rows) h)
 
-    pub call-laid : {w : List ℕ} {c : Counters} → p .rows ≤ p .live → newEffect c w ≡ laid g (length t) (plannedState (g .base) s p (p .live))
-        → newEffect c w ≡ deserializeCall g s t
+    pub call-laid : {w : List ℕ} {c : Counters} → p .rows ≤ p .live → recordEffect c w ≡ laid g (length t) (plannedState (g .base) s p (p .live))
+        → recordEffect c w ≡ deserializeCall g s t
     unfolding deserializeCall readSnapshot bound laidIn laidOut
     call-laid h e =
         rw (with-ranged g (readSnapshot (g .base) (roomOf t) s) ranged, ← d .outcome (g .base), ← d .plan .rows, le-ltb (p .live) (p .rows) h) e
 
-    pub load-laid : {live : ℕ} {w : List ℕ} {c : Counters} → live ≡ max (p .live) (p .rows) → newEffect c w ≡ laid g (length t) (plannedState (g .base) s p live)
+    pub load-laid : {live : ℕ} {w : List ℕ} {c : Counters} → live ≡ max (p .live) (p .rows) → recordEffect c w ≡ laid g (length t) (plannedState (g .base) s p live)
         → loadEffect (record { answer = Taken; counters = c; «old_total» = p .live }) w ≡ loadCall g s t
     unfolding loadCall raised laidIn laidOut
     load-laid h e =

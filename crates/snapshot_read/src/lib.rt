@@ -26,7 +26,7 @@ ghost use Rattle.base.specs.Logic.{zeros};
 ghost use Rattle.base.specs.declared.Answer.the-variants.{Refused};
 ghost use Rattle.rows.specs.Table.{tableOf};
 ghost use Rattle.counters.specs.Layout.{countRow};
-ghost use Rattle.counters.specs.Calls.{effect, newEffect, laid, noCounters};
+ghost use Rattle.counters.specs.Calls.{effect, recordEffect, laid, noCounters};
 ghost use Rattle.snapshot.specs.Calls.{deserializeCall, loadEffect, loadCall};
 ghost use Rattle.snapshot_judge.specs.Decide.{countsOf, Planned};
 ghost use Rattle.snapshot_read.specs.Fresh.{freshRecord, plannedState};
@@ -77,7 +77,7 @@ fn record_of(next: u64, live: u64, stored: usize, settings: ShrinkSettings) -> C
 // The counts of a plan, laid over whatever the table holds, and their record with a live total under some settings.
 fn laid_in(t: &mut [u64], s: &[u8], p: Plan, live: u64, settings: ShrinkSettings) -> Counters
     requires { ⌜ Planned (now s) (length (now t) / 2) p ⌝ }
-    ensures { λ r. ⌜ newEffect r (now (t .exit)) ≡ laid settings (length (now (t .entry))) (plannedState (settings .base) (now (s .entry)) p live) ⌝ }
+    ensures { λ r. ⌜ recordEffect r (now (t .exit)) ≡ laid settings (length (now (t .entry))) (plannedState (settings .base) (now (s .entry)) p live) ⌝ }
 {
     let len = t.len();
     word_slices::fill(t, 0, len, 0);
