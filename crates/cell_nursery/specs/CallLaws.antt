@@ -32,6 +32,12 @@ held-or-not held a = ends-here (not-test held) taken-refused
 broken-alone : {A : Type 0} (held : Bool) (a : A) → Refuses (20 ∷ []) (refuseIf (not held) Broken >> taken a)
 broken-alone held a = refuses-step Broken [] (not-test held) (refuses-none [] a)
 
+-- a state laid out, or what stands beside a refusal
+pub laidOut-answer : (delay : ℕ) (r : Nursery) (es ws cs : List ℕ) (o : Outcome State) → laidOut delay r es ws cs o .result .answer ≡ answerOf o
+unfolding laidOut laid
+laidOut-answer delay r es ws cs (refused q) = refl
+laidOut-answer delay r es ws cs (taken s) = refl
+
 -- ---- a delta
 module _ (r : Nursery) (es ws cs : List ℕ) (wide : Bool) (inserts removes : ℕ) (items : List ℕ) where
   abbrev spelled : Option Delta
@@ -44,12 +50,8 @@ module _ (r : Nursery) (es ws cs : List ℕ) (wide : Bool) (inserts removes : �
   outcome = refuseIf (not (holds r es ws cs)) Broken >> (orRefuse Broken spelled >>= applied)
 
   answered : deltaCall r es ws cs wide inserts removes items .result .answer ≡ answerOf outcome
-  unfolding deltaCall onState laidOut laid
-  answered = go outcome
-    where
-      go : (o : Outcome State) → laidOut (r .delay) r es ws cs o .result .answer ≡ answerOf o
-      go (refused q) = refl
-      go (taken s) = refl
+  unfolding deltaCall onState
+  answered = laidOut-answer (r .delay) r es ws cs outcome
 
   -- 20, broken: the record and the tables hold no state, or the items run past their bytes
   pub delta-broken : (deltaCall r es ws cs wide inserts removes items .result .answer ≡ Refused Broken) ↔ ((holds r es ws cs ≡ false) ⊎ (spelled ≡ none))

@@ -23,6 +23,7 @@ use Rattle.cell_nursery.specs.Items.{deltaOf}
 use Rattle.cell_nursery.specs.Delta.{applyDelta}
 use Rattle.cell_nursery.specs.Drain.{drained, drainBytes}
 use Rattle.cell_nursery.specs.Layout.{recordOf, roomOf, stateOf, delayInRange}
+use Rattle.cell_nursery.specs.CallLaws.{laidOut-answer}
 use Rattle.cell_nursery.specs.Calls.{effect, laid, laidOut, onState, newCall, lengthWidth, deltaCall, drainedOut, drainCall}
 
 -- ---- the range
@@ -55,12 +56,8 @@ module _ (delay : ℕ) (es ws cs : List ℕ) where
   made = refuseIf (not (delayInRange delay)) BadSetting >> taken empty
 
   made-answered : newCall delay es ws cs .result .answer ≡ answerOf made
-  unfolding newCall laidOut laid
-  made-answered = go (delayInRange delay)
-    where
-      go : (b : Bool) → laidOut delay (recordOf 0 empty) es ws cs (refuseIf (not b) BadSetting >> taken empty) .result .answer ≡ answerOf (refuseIf (not b) BadSetting >> taken empty)
-      go true = refl
-      go false = refl
+  unfolding newCall
+  made-answered = laidOut-answer delay (recordOf 0 empty) es ws cs made
 
   -- 23, bad setting: a delay of no round, or of more than 10,000
   pub new-setting : (newCall delay es ws cs .result .answer ≡ Refused BadSetting) ↔ ((delay ≡ 0) ⊎ (10000 < delay))

@@ -133,7 +133,7 @@ module _ (g : ShrinkSettings) (c : Counters) (t : List ℕ) (o : Outcome State) 
       go (taken s) = refl
 
   module _ (fits : (s : State) → o ≡ taken s → length (s .counts) ≤ roomOf t) where
-    pub laidOut-length : length (laidOut g c t o .table) ≡ length t
+    laidOut-length : length (laidOut g c t o .table) ≡ length t
     unfolding laidOut laid
     laidOut-length = go o fits
       where
@@ -153,7 +153,7 @@ module _ (g : ShrinkSettings) (c : Counters) (t : List ℕ) (o : Outcome State) 
         go (refused q) f k = h
         go (taken s) f k = holds-laid g s (length t) (omega (arith, f s refl)) r (k s refl .0) (k s refl .1)
 
-    pub laidOut-state : (s : State) → o ≡ taken s → stateOf (laidOut g c t o .result .counters) (laidOut g c t o .table) ≡ s
+    laidOut-state : (s : State) → o ≡ taken s → stateOf (laidOut g c t o .result .counters) (laidOut g c t o .table) ≡ s
     unfolding laidOut laid
     laidOut-state s e = rw e (stateOf-laid g s (length t) (omega (arith, fits s e)))
 

@@ -11,7 +11,6 @@ use Rattle.base.specs.Output.{fitting, put, written}
 use Rattle.base.specs.declared.Answer.{Answer}
 use Rattle.base.specs.declared.Answer.the-variants.{Taken}
 use Rattle.base.specs.declared.Refusal.the-variants.{Broken}
-use Rattle.counters.specs.declared.ShrinkSettings.{ShrinkSettings}
 use Rattle.counters.specs.declared.Counters.{Counters}
 use Rattle.counters.specs.declared.Shrunk.{Shrunk}
 use Rattle.counters.specs.Counts as counts
@@ -20,7 +19,7 @@ use Rattle.counters.specs.Layout.{recordOf, batchOf}
 use Rattle.counters.specs.WordLaws.{words-batch}
 use Rattle.counters.specs.Calls as counters-calls
 use Rattle.counters.specs.Calls.{allocated, allocCall, getCall, batchCall, decided}
-use Rattle.counters.specs.CallLaws.{shrink-held}
+use Rattle.counters.specs.CallLaws.{laidOut-answer, shrink-held}
 use Rattle.snapshot.specs.Write.{snapshotBytes}
 use Rattle.snapshot.specs.Calls.{lengthCall, serializeCall}
 use Rattle.cell_nursery.specs.declared.Nursery.{Nursery}
@@ -29,6 +28,7 @@ use Rattle.cell_nursery.specs.Delta.{applyDelta}
 use Rattle.cell_nursery.specs.Items.{deltaOf}
 use Rattle.cell_nursery.specs.Drain.{drainBytes, listingBytes}
 use Rattle.cell_nursery.specs.Calls as nursery-calls
+use Rattle.cell_nursery.specs.CallLaws as nursery
 use Rattle.cell_nursery.specs.Calls.{lengthWidth, deltaCall, drainedOut, drainCall, foundOf, lookupCall, dataOf, dataCall, listingCall}
 use Rattle.node_box.specs.Box.{Box, Call, allocate, batch, batchRecords, delta, drain, get, shrink, adjust, measure, serialize, lookup, locate, listing, step}
 use Rattle.demand3.specs.CountersHeld.{counters-hold, counters-state, counters-length}
@@ -59,16 +59,6 @@ unfolding allocated
 alloc-says c (refused r) = refl
 alloc-says c (taken n) = refl
 
-counters-say : (g : ShrinkSettings) (c : Counters) (t : List ℕ) (o : Outcome counts.State) → counters-calls.laidOut g c t o .result .answer ≡ answerOf o
-unfolding counters-calls.laidOut counters-calls.laid
-counters-say g c t (refused r) = refl
-counters-say g c t (taken s) = refl
-
-nursery-says : (delay : ℕ) (r : Nursery) (es ws cs : List ℕ) (o : Outcome entries.State) → nursery-calls.laidOut delay r es ws cs o .result .answer ≡ answerOf o
-unfolding nursery-calls.laidOut nursery-calls.laid
-nursery-says delay r es ws cs (refused q) = refl
-nursery-says delay r es ws cs (taken s) = refl
-
 drain-says : (r : Nursery) (ws out : List ℕ) (o : Outcome (List ℕ)) (s : entries.State) → drainedOut r ws out o s .result .answer ≡ answerOf o
 unfolding drainedOut
 drain-says r ws out (refused q) s = refl
@@ -98,11 +88,11 @@ module _ {z : Fixed} {b : Box} {c : counts.State} {n : entries.State} (h : Holds
   pub answer-is : (x : Call) → step b x .0 ≡ answerTo z c n x
   unfolding step answerTo allocCall batchCall counters-calls.onState getCall deltaCall nursery-calls.onState drainCall decided lengthCall serializeCall lookupCall dataCall listingCall recordOf
   answer-is allocate = alloc-says (b .counters) _ ∙ ap (λ (d : Counters). answerOf (counts.allocate (d .«next_idx» .0))) (h .counters .same-record)
-  answer-is (batch words) = counters-say (b .counters .settings) (b .counters) (b .counts) _ ∙ rw (counters-hold (h .counters), counters-state (h .counters), counters-length (h .counters))
+  answer-is (batch words) = laidOut-answer (b .counters .settings) (b .counters) (b .counts) _ ∙ rw (counters-hold (h .counters), counters-state (h .counters), counters-length (h .counters))
   answer-is (batchRecords ts) =
-      counters-say (b .counters .settings) (b .counters) (b .counts) _ ∙ rw (counters-hold (h .counters), counters-state (h .counters), counters-length (h .counters), words-batch ts)
+      laidOut-answer (b .counters .settings) (b .counters) (b .counts) _ ∙ rw (counters-hold (h .counters), counters-state (h .counters), counters-length (h .counters), words-batch ts)
   answer-is (delta id wide inserts removes items) =
-      nursery-says (b .nursery .delay) (b .nursery) (b .entries) (b .waiting) (b .cells) _ ∙ rw (nursery-holds (h .nursery), nursery-state (h .nursery), room-same (h .nursery))
+      nursery.laidOut-answer (b .nursery .delay) (b .nursery) (b .entries) (b .waiting) (b .cells) _ ∙ rw (nursery-holds (h .nursery), nursery-state (h .nursery), room-same (h .nursery))
   answer-is (drain round out) =
       drain-says (b .nursery) (b .waiting) (zeros out) _ _ ∙ rw (nursery-holds (h .nursery), nursery-state (h .nursery), length-replicate {A = ℕ} out 0, delay-same (h .nursery))
   answer-is (get idx) = rw (counters-hold (h .counters), counters-state (h .counters))
