@@ -1,4 +1,4 @@
--- When an operation made of refusing steps ends so: a step met twice, a value that may be missing, bytes for an output, and the call's answer.
+-- When an operation made of refusing steps ends so: a step met twice, a value that may be missing, bytes for an output, the call's answer, and a test before a call.
 -- Assumes nothing.
 use mathlib.Core.Path.{_≡_, refl, sym, ap, _∙_}
 use mathlib.Core.Logic.{_↔_, _⊎_, inl, inr}
@@ -10,9 +10,9 @@ use native.Mathlib.Omega.{arith}
 use lib.ListN.{length}
 use lib.Dec.{eqb}
 use borrow.Author.Tests.{eq-eqb}
-use Rattle.base.specs.Logic.{any, elem}
+use Rattle.base.specs.Logic.{pick, any, elem}
 use Rattle.base.specs.ListLaws.{ltb-lt}
-use Rattle.base.specs.Answers.{Outcome, refused, taken, _>>=_, _>>_, refuseIf, orRefuse, either, answerOf, numberOf}
+use Rattle.base.specs.Answers.{Outcome, refused, taken, _>>=_, _>>_, refuseIf, orRefuse, either, answerOf, numberOf, answerNumber}
 use Rattle.base.specs.OutcomeLaws.{answer-refused, other-number, taken-refused, ends-here, ends-later, Refuses, refuses-none, refuses-step}
 use Rattle.base.specs.Output.{fitting}
 use Rattle.base.specs.declared.Answer.{Answer}
@@ -127,3 +127,25 @@ Answers ns a = (q : Refusal) → a ≡ Refused q → elem (numberOf q) ns ≡ tr
 -- they are its outcome's
 pub says-numbers : {A : Type 0} {a : Answer} (ns : List ℕ) (o : Outcome A) → a ≡ answerOf o → Refuses ns o → Answers ns a
 says-numbers ns o e f q p = f q (answer-refused o q .0 (sym e ∙ p))
+
+-- ---- a test that is made before a call: x is what the test refuses with r, y the call
+module _ {X : Type 0} (answer : X → Answer) (x y : X) (r : Refusal) (e : answer x ≡ Refused r) where
+  -- it is refused so where the test says so, or where the call is by itself
+  pub first-refused : {Q : Type 0} (b : Bool) → (answer y ≡ Refused r) ↔ Q → (answer (pick b x y) ≡ Refused r) ↔ ((b ≡ true) ⊎ Q)
+  first-refused true f = (λ p. inl refl, λ s. e)
+  first-refused false f = (λ p. inr (f .0 p), λ s. elim s [ inl p ↦ absurd (false≢true p) | inr q ↦ f .1 q ])
+
+  -- the test's alone
+  pub first-alone : (b : Bool) → (answer y ≡ Refused r → ⊥) → (answer (pick b x y) ≡ Refused r) ↔ (b ≡ true)
+  first-alone b n =
+      exactly (first-refused {Q = ⊥} b (n, λ z. absurd z)) (λ s. elim s [ inl p ↦ p | inr z ↦ absurd z ], λ p. inl p)
+
+  -- every other refusal is the call's
+  pub later-refused : {Q : Type 0} {q : Refusal} (b : Bool) → (numberOf r ≡ numberOf q → ⊥) → (answer y ≡ Refused q) ↔ Q → (answer (pick b x y) ≡ Refused q) ↔ ((b ≡ false) × Q)
+  later-refused true n f = (λ p. absurd (n (ap answerNumber (sym e ∙ p))), λ s. absurd (true≢false (s .0)))
+  later-refused false n f = (λ p. (refl, f .0 p), λ s. f .1 (s .1))
+
+  pub first-numbers : (b : Bool) (ns : List ℕ) → Answers ns (answer y) → Answers (numberOf r ∷ ns) (answer (pick b x y))
+  unfolding any
+  first-numbers true ns f q p = let same : numberOf q ≡ numberOf r = ap answerNumber (sym p ∙ e) in rw (eq-eqb (numberOf q) (numberOf r) same)
+  first-numbers false ns f q p = rw (f q p) (or-true (eqb (numberOf q) (numberOf r)))

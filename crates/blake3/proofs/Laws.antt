@@ -10,8 +10,8 @@ use lib.ListN.{length, set, take, drop, length-drop}
 use lib.Seq.{take-all, take-length, take-suc, set-at, length-take-le, drop-drop}
 use Rattle.base.specs.Logic.{flat, from, zeros}
 use Rattle.base.specs.Bytes.{le32, unle, digits}
-use Rattle.blake3_compress.specs.Spec.{at, iv, compress}
-use Rattle.blake3.specs.Spec.{blockWords, padded, chunkEnd, chain, chunk, parent, root, parentOf, doubled, leftLen, tree, hashWith, hash}
+use Rattle.blake3_compress.specs.Spec.{at, compress}
+use Rattle.blake3.specs.Spec.{blockWords, padded, chunkEnd, chain, chunk, parent, root, parentOf, doubled, leftLen, tree, hashWith}
 use Rattle.blake3.specs.Equations.{tree-chunk, tree-parent}
 use Rattle.blake3_compress.specs.FillLaws.{eight}
 
@@ -136,6 +136,6 @@ parent-tree key flags top counter bs {k} h e p q u =
     cc (w, rest bs k)
 
 -- the bytes of the root
-pub hashed : (bs : List ℕ) {v r : List ℕ} → v ≡ tree iv 0 root 0 bs → r ≡ flat le32 v → r ≡ hash bs
-unfolding hash hashWith
-hashed bs p q = q ∙ ap (flat le32) p
+pub hashed : (key : List ℕ) (flags : ℕ) (bs : List ℕ) {v r : List ℕ} → v ≡ tree key flags root 0 bs → r ≡ flat le32 v → r ≡ hashWith key flags bs
+unfolding hashWith
+hashed key flags bs p q = q ∙ ap (flat le32) p
