@@ -210,6 +210,7 @@ module _ (hash : List ℕ → List ℕ) {A : Type 0} (id : A → ℕ) (delta : A
       pub scan-cut : (xs : List A) → Applies m empty xs → (k : ℕ) → k ≤ length (flat bytesOf xs)
           → scan hash (take k (flat bytesOf xs))
           ≡ record {
+            answer = Taken;
             records = length (wholeIn k xs);
             place = length (flat bytesOf (wholeIn k xs));
             ended = endOf (length (flat bytesOf (wholeIn k xs))) k;
