@@ -8,12 +8,14 @@ use Prim.Native.Nat.{ℕ}
 use lib.ListN.{length}
 use lib.Dec.{eqb}
 use borrow.Author.Tests.{eq-eqb, ne-eqb, eqb-true}
-use Rattle.blake3.specs.Spec.{keyWords, hashWith, keyed, hash}
-use Rattle.blake3.specs.Equations.{length-hashWith, length-hash}
+use Rattle.base.specs.Logic.{pick}
+use Rattle.blake3.specs.declared.Start.{Start}
+use Rattle.blake3.specs.Spec.{keyedHash, keyed, hash}
+use Rattle.blake3.specs.Equations.{length-hashWith}
 use Rattle.blake3.specs.Mode.{Mode, modeOf, badKey, hashBy, startOf, hashFrom}
 
 -- hashing from a mode's start is hashing in that mode
-pub from-start : (m : Mode) → hashFrom (startOf m) ≡ hashBy m
+from-start : (m : Mode) → hashFrom (startOf m) ≡ hashBy m
 unfolding hashFrom startOf hashBy keyed hash
 from-start m = go (m .underKey)
   where
@@ -21,13 +23,15 @@ from-start m = go (m .underKey)
     go true = refl
     go false = refl
 
+pub started : (m : Mode) {w : Start} → w ≡ startOf m → hashFrom w ≡ hashBy m
+started m e = ap hashFrom e ∙ from-start m
+
+pub length-hashFrom : (w : Start) (bs : List ℕ) → length (hashFrom w bs) ≡ 32
+unfolding hashFrom
+length-hashFrom w bs = length-hashWith (w .words) (pick (w .keyed) keyedHash 0) bs
+
 pub length-hashBy : (m : Mode) (bs : List ℕ) → length (hashBy m bs) ≡ 32
-unfolding hashBy keyed
-length-hashBy m bs = go (m .underKey)
-  where
-    go : (b : Bool) → length (hashBy (modeOf b (m .key)) bs) ≡ 32
-    go true = length-hashWith (keyWords (m .key)) 16 bs
-    go false = length-hash bs
+length-hashBy m bs = rw (← from-start m) (length-hashFrom (startOf m) bs)
 
 -- a key is bad exactly where there is one, and it isn't of 32 bytes
 pub bad-key : (m : Mode) → (badKey m ≡ true) ↔ ((m .underKey ≡ true) × (¬ (length (m .key) ≡ 32)))

@@ -9,7 +9,7 @@ use Prim.Native.Nat.{ℕ, _+_, _-_, _^_, _≤_, _<_}
 use native.Mathlib.Omega.{arith}
 use native.Mathlib.Decide.{decLt}
 use lib.ListN.{length, take, drop}
-use lib.Dec.{leb, ltb, eqb}
+use lib.Dec.{leb, ltb, eqb, nleb→lt, nltb→le}
 use borrow.Author.Tests.{lt-ltb, ltb-true, ltb-false}
 use Rattle.base.specs.Logic.{eqbList, any, elem}
 use Rattle.base.specs.Bytes.{unle}
@@ -105,6 +105,10 @@ Whole bs = (stated bs < 2 ^ 64 - 8) × (40 + stated bs ≤ length bs)
 
 abbrev pub Matches : (List ℕ → List ℕ) → List ℕ → Type 0
 Matches hash bs = hash (take (8 + stated bs) (drop 32 bs)) ≡ take 32 bs
+
+-- the hash that a record states, whatever is hashed: by it a record is read whose hash is taken on trust
+abbrev pub statedHash : List ℕ → List ℕ → List ℕ
+statedHash bs covered = take 32 bs
 
 module _ (hash : List ℕ → List ℕ) (bs : List ℕ) where
   abbrev decoding : Payload → Decoding
@@ -220,7 +224,30 @@ module _ (hash : List ℕ → List ℕ) (bs : List ℕ) where
       once false true c f = refl
       once false false c f = f
 
+  -- where a whole record is known to have its hash, the stated one will do
+  pub parse-known : (Whole bs → Matches hash bs) → parse (statedHash bs) bs ≡ parse hash bs
+  unfolding parse
+  parse-known known = go (ltb (length bs) 40) (leb (2 ^ 64 - 8) (stated bs)) (ltb (length bs) (40 + stated bs)) refl refl
+    where
+      -- what comes behind the tests of the lengths, by a hash
+      rest : (List ℕ → List ℕ) → Outcome Decoding
+      rest h = refuseIf (not (eqbList (h (take (8 + stated bs) (drop 32 bs))) (take 32 bs))) Mismatch >> last
+
+      same : Matches hash bs → rest (statedHash bs) ≡ rest hash
+      same e = rw e
+
+      go : (a b c : Bool) → leb (2 ^ 64 - 8) (stated bs) ≡ b → ltb (length bs) (40 + stated bs) ≡ c
+          → (refuseIf a ShortRecord >> (refuseIf b FarLength >> (refuseIf c ShortRecord >> rest (statedHash bs)))) ≡ (refuseIf a ShortRecord >> (refuseIf b FarLength >> (refuseIf c ShortRecord >> rest hash)))
+      go true b c near whole = refl
+      go false true c near whole = refl
+      go false false true near whole = refl
+      go false false false near whole = same (known (nleb→lt (2 ^ 64 - 8) (stated bs) (rw near tt), nltb→le (length bs) (40 + stated bs) (rw whole tt)))
+
   -- ---- decoding, by what parsing gives
+  pub decode-known : (Whole bs → Matches hash bs) → decode (statedHash bs) bs ≡ decode hash bs
+  unfolding decode
+  decode-known known = rw (parse-known known)
+
   pub still-refused : (r : Refusal) → parse hash bs ≡ refused r → decode hash bs ≡ refused r
   unfolding decode
   still-refused r e = rw e

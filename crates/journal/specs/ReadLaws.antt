@@ -180,6 +180,28 @@ module _ {S : Type 0} (step : Step S) where
     pub records-ends : (s : S) (records place : ℕ) (bs : List ℕ) → P s records place bs → EndsWith (recordsIn s records place bs)
     records-ends s records place bs p = ends-with (length bs) s records place bs (omega arith) p
 
+-- two steps that do the same wherever the second leads
+module _ {S : Type 0} (f g : Step S) (P : ℕ → List ℕ → Type 0) (same : (s : S) (place : ℕ) (bs : List ℕ) → P place bs → f s bs ≡ g s bs)
+    (kept : (s t : S) (n place : ℕ) (bs : List ℕ) → P place bs → g s bs ≡ taken (t, n) → P (place + (40 + n)) (drop (40 + n) bs)) where
+  pub same-records : (fuel : ℕ) (s : S) (records place : ℕ) (bs : List ℕ) → P place bs → recordsFrom fuel f s records place bs ≡ recordsFrom fuel g s records place bs
+  unfolding recordsFrom
+  same-records zero s records place bs p = refl
+  same-records (suc fuel) s records place [] p = refl
+  same-records (suc fuel) s records place (x ∷ xs) p =
+      rw (same s place (x ∷ xs) p)
+      (go (λ t n q. same-records fuel t (suc records) (place + (40 + n)) (drop (40 + n) (x ∷ xs)) q) (g s (x ∷ xs)) refl)
+    where
+      onward : Step S → S → ℕ → End S
+      onward step t n = recordsFrom fuel step t (suc records) (place + (40 + n)) (drop (40 + n) (x ∷ xs))
+
+      stop : Refusal → End S
+      stop r = record { state = s; records = records; place = place; ended = Refused r }
+
+      go : ((t : S) (n : ℕ) → P (place + (40 + n)) (drop (40 + n) (x ∷ xs)) → onward f t n ≡ onward g t n) → (o : Outcome (S × ℕ)) → g s (x ∷ xs) ≡ o
+          → either stop (λ (t, n). onward f t n) o ≡ either stop (λ (t, n). onward g t n) o
+      go later (refused r) e = refl
+      go later (taken (t, n)) e = later t n (kept s t n place (x ∷ xs) p e)
+
 -- ---- the call
 -- a refusal is damage exactly where its number isn't 16
 pub damages-other : (q : Refusal) → (damages (Refused q) ≡ true) ↔ (¬ (numberOf q ≡ numberOf ShortRecord))

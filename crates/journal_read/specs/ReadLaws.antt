@@ -19,7 +19,7 @@ use Rattle.base.specs.declared.Answer.the-variants.{Taken, Refused}
 use Rattle.cell_nursery.specs.declared.Nursery.{Nursery}
 use Rattle.cell_nursery.specs.declared.Committed.{Committed}
 use Rattle.cell_nursery.specs.Entries.{State, empty, cellBytes}
-use Rattle.cell_nursery.specs.Delta.{applyDelta}
+use Rattle.cell_nursery.specs.Delta.{Room, applyDelta}
 use Rattle.cell_nursery.specs.Layout.{recordOf, entriesTable, waitingTable, cellsTable, roomOf, stateOf, delayInRange, holds}
 use Rattle.cell_nursery.specs.Calls as nursery
 use Rattle.cell_nursery.specs.Calls.{Changed, laid, laidOut, newCall}
@@ -29,20 +29,20 @@ use Rattle.cell_nursery.specs.LayoutLaws.{WellFormed, Held, held, length-entrie
 use Rattle.cell_nursery.specs.SettingLaws.{new-taken}
 use Rattle.cell_nursery.specs.EntryLaws.{well-empty, well-after, InRoom, room-after}
 use Rattle.format.specs.Record.{Decoding, decode}
-use Rattle.format.specs.RefusalLaws.{Whole, Matches}
+use Rattle.format.specs.RefusalLaws.{statedHash, decode-known}
 use Rattle.format.specs.TakenLaws.{taken-lent}
 use Rattle.journal.specs.declared.JournalRead.{JournalRead}
 use Rattle.journal.specs.declared.JournalScan.{JournalScan}
 use Rattle.journal.specs.Journal.{recordsFrom, scan, damages, damaged, applyRecord, readJournal, effect, notRead, readOut, readCall}
-use Rattle.journal.specs.ReadLaws.{RecordRefused, record-refused, record-taken, recordsIn, records-taken, records-refused, read-bad, read-damaged}
+use Rattle.journal.specs.ReadLaws.{RecordRefused, record-refused, record-taken, recordsIn, records-taken, records-refused, same-records, read-bad, read-damaged}
 use Rattle.journal_laws.specs.DeltaLaws.{delta-read, delta-fits, taken-accepted}
-use Rattle.journal_laws.specs.EndLaws.{Reached, reached-next, undamaged-matches}
+use Rattle.journal_laws.specs.EndLaws.{Reached, start, reached-next, undamaged-matches}
 use Rattle.journal_read.specs.declared.Step.{Step}
-use Rattle.journal_read.specs.Reading.{Stepped, stepped, beside, recordOn, recordCall, readOn}
+use Rattle.journal_read.specs.Reading.{Stepped, stepped, beside, recordOn, recordCall, applyHeld, readOn}
 
 -- ---- between two records
 -- a journal that is read on from what a record and tables hold
-module _ (hash : List ℕ → List ℕ) (s : List ℕ) (r₀ : Nursery) (es₀ ws₀ cs₀ : List ℕ) where
+module _ (s : List ℕ) (r₀ : Nursery) (es₀ ws₀ cs₀ : List ℕ) where
   -- the tables hold a state, from which the rest of the journal leads to the same end
   pub record Reading (r : Nursery) (es ws cs : List ℕ) (applied place : ℕ) : Type 0 where
     pub u64-es : U64 es
@@ -54,8 +54,7 @@ module _ (hash : List ℕ → List ℕ) (s : List ℕ) (r₀ : Nursery) (es₀ w
     pub size-cs : length cs ≡ length cs₀
     pub inside : place ≤ length s
     pub counted : applied ≤ place
-    pub reached : Reached hash s place
-    pub leads : recordsIn (applyRecord hash (roomOf es₀ ws₀ cs₀)) (stateOf r es ws cs) applied place (drop place s) ≡ recordsIn (applyRecord hash (roomOf es₀ ws₀ cs₀)) (stateOf r₀ es₀ ws₀ cs₀) 0 0 s
+    pub leads : recordsIn (applyHeld (roomOf es₀ ws₀ cs₀)) (stateOf r es ws cs) applied place (drop place s) ≡ recordsIn (applyHeld (roomOf es₀ ws₀ cs₀)) (stateOf r₀ es₀ ws₀ cs₀) 0 0 s
 
   -- a record of n bytes was applied
   pub record Applied (r : Nursery) (n : ℕ) (es ws cs : List ℕ) (applied place : ℕ) : Type 0 where
@@ -74,33 +73,31 @@ module _ (hash : List ℕ → List ℕ) (s : List ℕ) (r₀ : Nursery) (es₀ w
     room-same = rw (x .size-es, x .size-ws, x .size-cs)
 
     -- the reading ends here
-    closed : (a : Answer) → recordsIn (applyRecord hash (roomOf es₀ ws₀ cs₀)) here applied place (drop place s) ≡ record { state = here; records = applied; place = place; ended = a }
-        → effect (record { answer = Taken; nursery = r; applied = applied; place = place; ended = a }) es ws cs ≡ readOn hash r₀ es₀ ws₀ cs₀ s
+    closed : (a : Answer) → recordsIn (applyHeld (roomOf es₀ ws₀ cs₀)) here applied place (drop place s) ≡ record { state = here; records = applied; place = place; ended = a }
+        → effect (record { answer = Taken; nursery = r; applied = applied; place = place; ended = a }) es ws cs ≡ readOn r₀ es₀ ws₀ cs₀ s
     unfolding readOn readOut laid
     closed a e =
         let h = is-held in
         rw (← x .leads, e, ← x .same-delay, ← x .size-es, ← x .size-ws, ← x .size-cs, h .same-record, h .same-entries, h .same-waiting, h .same-cells)
 
-    pub finished : place ≡ length s → effect (record { answer = Taken; nursery = r; applied = applied; place = length s; ended = Taken }) es ws cs ≡ readOn hash r₀ es₀ ws₀ cs₀ s
+    pub finished : place ≡ length s → effect (record { answer = Taken; nursery = r; applied = applied; place = length s; ended = Taken }) es ws cs ≡ readOn r₀ es₀ ws₀ cs₀ s
     unfolding recordsFrom
     finished e = rw (← e) (closed Taken (rw (e, drop-length s)))
 
-    -- the record at this place: no record of the journal is damaged, so that a whole one has its hash
-    pub known : damaged hash s ≡ false → Whole (take (length s - place) (drop place s)) → Matches hash (take (length s - place) (drop place s))
-    known sound w =
-        let all = take-all (length s - place) (drop place s) (omega (arith, length-drop place s)) in
-        rw all (undamaged-matches hash s sound (x .reached) (rw all at w))
-
     -- what a record at this place did; the bytes from there on are lent as a part of the journal
-    module _ (more : place < length s) (u : U8 s) (q : Step) (es' ws' cs' : List ℕ) (e : stepped q es' ws' cs' ≡ recordCall hash r es ws cs (take (length s - place) (drop place s))) where
+    module _ (more : place < length s) (u : U8 s) (q : Step) (es' ws' cs' : List ℕ) (e : stepped q es' ws' cs' ≡ recordCall r es ws cs (take (length s - place) (drop place s))) where
       abbrev rest : List ℕ
       rest = drop place s
+
+      -- the hash that it states
+      abbrev hash : List ℕ → List ℕ
+      hash = statedHash rest
 
       some-left : 0 < length rest
       some-left = omega (arith, length-drop place s)
 
-      on-rest : stepped q es' ws' cs' ≡ recordCall hash r es ws cs rest
-      on-rest = e ∙ ap (λ (l : List ℕ). recordCall hash r es ws cs l) (take-all (length s - place) rest (omega (arith, length-drop place s)))
+      on-rest : stepped q es' ws' cs' ≡ recordCall r es ws cs rest
+      on-rest = e ∙ ap (λ (l : List ℕ). recordCall r es ws cs l) (take-all (length s - place) rest (omega (arith, length-drop place s)))
 
       -- it ends in the journal, also where its delta is refused
       pub reach : place + q .len ≤ length s
@@ -114,13 +111,13 @@ module _ (hash : List ℕ → List ℕ) (s : List ℕ) (r₀ : Nursery) (es₀ w
               omega (arith, taken-lent hash rest d i .inside, length-drop place s)
 
       -- it was refused, or its delta was: nothing changed
-      pub stopped : (a : Refusal) → q .answer ≡ Refused a → effect (record { answer = Taken; nursery = q .nursery; applied = applied; place = place; ended = q .answer }) es' ws' cs' ≡ readOn hash r₀ es₀ ws₀ cs₀ s
+      pub stopped : (a : Refusal) → q .answer ≡ Refused a → effect (record { answer = Taken; nursery = q .nursery; applied = applied; place = place; ended = q .answer }) es' ws' cs' ≡ readOn r₀ es₀ ws₀ cs₀ s
       unfolding recordCall recordOn laidOut laid
       stopped a ended = go (decode hash rest) refl on-rest
         where
           as-before : (k : ℕ) (y : Refusal) → stepped q es' ws' cs' ≡ beside k (laidOut (r .delay) r es ws cs (refused y))
-              → recordsIn (applyRecord hash (roomOf es₀ ws₀ cs₀)) here applied place rest ≡ record { state = here; records = applied; place = place; ended = Refused y }
-              → effect (record { answer = Taken; nursery = q .nursery; applied = applied; place = place; ended = q .answer }) es' ws' cs' ≡ readOn hash r₀ es₀ ws₀ cs₀ s
+              → recordsIn (applyHeld (roomOf es₀ ws₀ cs₀)) here applied place rest ≡ record { state = here; records = applied; place = place; ended = Refused y }
+              → effect (record { answer = Taken; nursery = q .nursery; applied = applied; place = place; ended = q .answer }) es' ws' cs' ≡ readOn r₀ es₀ ws₀ cs₀ s
           as-before k y f l =
               rw (
                 ap (λ (z : Stepped). z .result .answer) f,
@@ -132,17 +129,17 @@ module _ (hash : List ℕ → List ℕ) (s : List ℕ) (r₀ : Nursery) (es₀ w
               (closed (Refused y) l)
 
           ends : (y : Refusal) → RecordRefused hash (roomOf es₀ ws₀ cs₀) here rest y
-              → recordsIn (applyRecord hash (roomOf es₀ ws₀ cs₀)) here applied place rest ≡ record { state = here; records = applied; place = place; ended = Refused y }
-          ends y p = records-refused (applyRecord hash (roomOf es₀ ws₀ cs₀)) here applied place y rest some-left (record-refused hash (roomOf es₀ ws₀ cs₀) here rest y .1 p)
+              → recordsIn (applyHeld (roomOf es₀ ws₀ cs₀)) here applied place rest ≡ record { state = here; records = applied; place = place; ended = Refused y }
+          ends y p = records-refused (applyHeld (roomOf es₀ ws₀ cs₀)) here applied place y rest some-left (record-refused hash (roomOf es₀ ws₀ cs₀) here rest y .1 p)
 
           after : (d : Decoding) (o : Outcome State) → decode hash rest ≡ taken d → applyDelta (roomOf es ws cs) here (d .delta) ≡ o
               → stepped q es' ws' cs' ≡ beside (40 + d .stats .«payload_bytes») (laidOut (r .delay) r es ws cs o)
-              → effect (record { answer = Taken; nursery = q .nursery; applied = applied; place = place; ended = q .answer }) es' ws' cs' ≡ readOn hash r₀ es₀ ws₀ cs₀ s
+              → effect (record { answer = Taken; nursery = q .nursery; applied = applied; place = place; ended = q .answer }) es' ws' cs' ≡ readOn r₀ es₀ ws₀ cs₀ s
           after d (refused y) i p f = as-before (40 + d .stats .«payload_bytes») y f (ends y (inr (d, i, rw room-same at p)))
           after d (taken t) i p f = absurd (not-refused (sym (ap (λ (z : Stepped). z .result .answer) f) ∙ ended))
 
           go : (o : Outcome Decoding) → decode hash rest ≡ o → stepped q es' ws' cs' ≡ recordOn r es ws cs o
-              → effect (record { answer = Taken; nursery = q .nursery; applied = applied; place = place; ended = q .answer }) es' ws' cs' ≡ readOn hash r₀ es₀ ws₀ cs₀ s
+              → effect (record { answer = Taken; nursery = q .nursery; applied = applied; place = place; ended = q .answer }) es' ws' cs' ≡ readOn r₀ es₀ ws₀ cs₀ s
           go (refused y) i f = as-before 0 y f (ends y (inl i))
           go (taken d) i f = after d (applyDelta (roomOf es ws cs) here (d .delta)) i refl f
 
@@ -164,7 +161,7 @@ module _ (hash : List ℕ → List ℕ) (s : List ℕ) (r₀ : Nursery) (es₀ w
               let well : WellFormed t = rw same (well-after (d .delta) here (delta-fits 0 inserts removes (d .delta) (omega arith) read (ok .short) .inserts) (ok .new) (is-held .well)) in
               let fit : InRoom (min (length es / 8) (length ws / 5)) (length cs) t = rw same (room-after (roomOf es ws cs) (d .delta) here (ok .fits)) in
               let state-same : stateOf (q .nursery) es' ws' cs' ≡ t = rw (a, f, g, h) (stateOf-laid t (length es) (length ws) (length cs) well (fit .rows-fit) (fit .bytes-fit) (r .delay)) in
-              let turn = records-taken (applyRecord hash (roomOf es₀ ws₀ cs₀)) here applied place t size rest some-left (record-taken hash (roomOf es₀ ws₀ cs₀) here rest t size .1 (d, i, rw room-same at p, refl)) in
+              let turn = records-taken (applyHeld (roomOf es₀ ws₀ cs₀)) here applied place t size rest some-left (record-taken hash (roomOf es₀ ws₀ cs₀) here rest t size .1 (d, i, rw room-same at p, refl)) in
               let left = length-drop place s in
               record {
                 some = omega (arith, b);
@@ -179,7 +176,6 @@ module _ (hash : List ℕ → List ℕ) (s : List ℕ) (r₀ : Nursery) (es₀ w
                       size-cs = ap length h ∙ length-cellsTable t (length es) (length ws) (length cs) well (fit .rows-fit) (fit .bytes-fit) ∙ x .size-cs;
                       inside = omega (arith, b, left, whole .inside);
                       counted = omega (arith, b, x .counted);
-                      reached = rw b (reached-next hash s size d (x .reached) i refl);
                       leads = rw (state-same, add-one applied, b, ← drop-drop (40 + size) place s) (sym turn ∙ x .leads);
                     };
               }
@@ -227,9 +223,9 @@ module _ (delay : ℕ) (inRange : delayInRange delay ≡ true) (es ws cs : List 
   pub fresh-holds : holds (c .nursery) es' ws' cs' ≡ true
   fresh-holds = rw (is-record, is-entries, is-waiting, is-cells) (holds-laid empty (length es) (length ws) (length cs) well-empty no-rows no-bytes delay inRange)
 
-  pub fresh-read : (hash : List ℕ → List ℕ) (s : List ℕ) → readOn hash (c .nursery) es' ws' cs' s ≡ readOut delay es ws cs (readJournal hash (roomOf es ws cs) s)
-  unfolding readOn readOut readJournal laid roomOf recordOf
-  fresh-read hash s =
+  pub fresh-read : (s : List ℕ) → readOn (c .nursery) es' ws' cs' s ≡ readOut delay es ws cs (recordsIn (applyHeld (roomOf es ws cs)) empty 0 0 s)
+  unfolding readOn readOut laid roomOf recordOf
+  fresh-read s =
       rw (
         is-record,
         is-entries,
@@ -243,6 +239,20 @@ module _ (delay : ℕ) (inRange : delayInRange delay ≡ true) (es ws cs : List 
 
 -- ---- the call, by its first pass
 module _ (hash : List ℕ → List ℕ) (s : List ℕ) where
+  -- where no record is damaged, their hashes may be taken on trust
+  pub held-read : damaged hash s ≡ false → (m : Room) → recordsIn (applyHeld m) empty 0 0 s ≡ readJournal hash m s
+  unfolding readJournal applyRecord
+  held-read sound m = same-records (applyHeld m) (applyRecord hash m) (λ place rest. (rest ≡ drop place s) × Reached hash s place) same kept (length s) empty 0 0 s (refl, start)
+    where
+      same : (t : State) (place : ℕ) (rest : List ℕ) → (rest ≡ drop place s) × Reached hash s place → applyHeld m t rest ≡ applyRecord hash m t rest
+      same t place rest (e, r) = rw (decode-known hash rest (rw e (undamaged-matches hash s sound r)))
+
+      kept : (t u : State) (n place : ℕ) (rest : List ℕ) → (rest ≡ drop place s) × Reached hash s place → applyRecord hash m t rest ≡ taken (u, n)
+          → (drop (40 + n) rest ≡ drop (place + (40 + n)) s) × Reached hash s (place + (40 + n))
+      kept t u n place rest (e, r) f =
+          let (d, i, j, k) = record-taken hash m t rest u n .0 f in
+          (ap (λ (l : List ℕ). drop (40 + n) l) e ∙ drop-drop (40 + n) place s, reached-next hash s n d r (ap (decode hash) (sym e) ∙ i) k)
+
   pub pass-says : (x : JournalScan) (b : Bool) → x ≡ scan hash s → b ≡ damages (x .ended) → damaged hash s ≡ b
   unfolding damaged
   pass-says x b e f = rw (← e) (sym f)

@@ -5,10 +5,13 @@ use mathlib.Core.List.{List}
 use lib.ListN.{length}
 use Rattle.base.specs.Answers.{Outcome, refused, taken}
 use Rattle.cell_nursery.specs.declared.Nursery.{Nursery}
-use Rattle.cell_nursery.specs.Delta.{applyDelta}
+use Rattle.cell_nursery.specs.Entries.{State}
+use Rattle.cell_nursery.specs.Delta.{Room, applyDelta}
 use Rattle.cell_nursery.specs.Layout.{roomOf, stateOf}
 use Rattle.cell_nursery.specs.Calls.{Changed, laidOut}
 use Rattle.format.specs.Record.{Decoding, decode}
+use Rattle.format.specs.RefusalLaws.{statedHash}
+use Rattle.journal.specs.Journal as journal
 use Rattle.journal.specs.Journal.{recordsFrom, applyRecord, ReadIn, readOut}
 use Rattle.journal_read.specs.declared.Step.{Step}
 
@@ -32,10 +35,14 @@ recordOn r es ws cs (refused x) = beside 0 (laidOut (r .delay) r es ws cs (refus
 recordOn r es ws cs (taken d) =
     beside (40 + d .stats .«payload_bytes») (laidOut (r .delay) r es ws cs (applyDelta (roomOf es ws cs) (stateOf r es ws cs) (d .delta)))
 
--- the record that bytes start with, on the state that the tables hold
-unfoldable pub recordCall : (List ℕ → List ℕ) → Nursery → List ℕ → List ℕ → List ℕ → List ℕ → Stepped
-recordCall hash r es ws cs bs = recordOn r es ws cs (decode hash bs)
+-- the record that bytes start with, its hash taken on trust, on the state that the tables hold
+unfoldable pub recordCall : Nursery → List ℕ → List ℕ → List ℕ → List ℕ → Stepped
+recordCall r es ws cs bs = recordOn r es ws cs (decode (statedHash bs) bs)
 
--- a journal's records read on from the state that the tables hold
-unfoldable pub readOn : (List ℕ → List ℕ) → Nursery → List ℕ → List ℕ → List ℕ → List ℕ → ReadIn
-readOn hash r es ws cs bs = readOut (r .delay) es ws cs (recordsFrom (length bs) (applyRecord hash (roomOf es ws cs)) (stateOf r es ws cs) 0 0 bs)
+-- a record is applied, its hash taken on trust
+abbrev pub applyHeld : Room → journal.Step State
+applyHeld m s bs = applyRecord (statedHash bs) m s bs
+
+-- a journal's records read on so from the state that the tables hold
+unfoldable pub readOn : Nursery → List ℕ → List ℕ → List ℕ → List ℕ → ReadIn
+readOn r es ws cs bs = readOut (r .delay) es ws cs (recordsFrom (length bs) (applyHeld (roomOf es ws cs)) (stateOf r es ws cs) 0 0 bs)

@@ -16,12 +16,16 @@ use Rattle.cell_nursery.specs.Calls.{laidOut, onState, deltaCall}
 use Rattle.format.specs.declared.Decoded.{Decoded}
 use Rattle.format.specs.Record.{Decoding, decode}
 use Rattle.format.specs.Calls.{decodedOf, decodeCall}
+use Rattle.format.specs.RefusalLaws.{statedHash}
 use Rattle.format.specs.TakenLaws.{taken-lent}
 use Rattle.journal_read.specs.Reading.{stepped, beside, recordOn, recordCall}
 
 -- ---- decoding's answer
-module _ (hash : List ℕ → List ℕ) (r : Nursery) (es ws cs bs : List ℕ) (q : Decoded) (e : q ≡ decodeCall hash bs) where
-  pub record-refused : (x : Refusal) → q .answer ≡ Refused x → stepped (record { answer = q .answer; nursery = r; len = 0 }) es ws cs ≡ recordCall hash r es ws cs bs
+module _ (r : Nursery) (es ws cs bs : List ℕ) (q : Decoded) (e : q ≡ decodeCall (statedHash bs) bs) where
+  abbrev hash : List ℕ → List ℕ
+  hash = statedHash bs
+
+  pub record-refused : (x : Refusal) → q .answer ≡ Refused x → stepped (record { answer = q .answer; nursery = r; len = 0 }) es ws cs ≡ recordCall r es ws cs bs
   unfolding decodeCall recordCall decodedOf recordOn laidOut
   record-refused x a = rw e (go (decode hash bs) (sym (ap (λ (y : Decoded). y .answer) e) ∙ a))
     where
@@ -33,7 +37,7 @@ module _ (hash : List ℕ → List ℕ) (r : Nursery) (es ws cs bs : List ℕ) (
   pub record RecordTaken : Type 0 where
     pub inside : 56 + q .«items_len» ≤ length bs
     pub call : holds r es ws cs ≡ true
-        → beside (56 + q .«items_len») (deltaCall r es ws cs false (q .stats .«insert_ops») (q .stats .«remove_ops») (take (q .«items_len») (drop 56 bs))) ≡ recordCall hash r es ws cs bs
+        → beside (56 + q .«items_len») (deltaCall r es ws cs false (q .stats .«insert_ops») (q .stats .«remove_ops») (take (q .«items_len») (drop 56 bs))) ≡ recordCall r es ws cs bs
 
   pub record-taken : q .answer ≡ Taken → RecordTaken
   unfolding decodeCall recordCall decodedOf recordOn deltaCall onState

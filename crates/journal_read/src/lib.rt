@@ -1,23 +1,25 @@
 // Reading a journal: its records, one after another, into an empty nursery, up to the first that is cut or whose delta is refused.
 //
 // A first pass has decoded them all, up to the end or the first cut: where one is damaged, nothing is applied. The second doesn't hash them
-// again. What it applied stays. A refused delta changes nothing, so that the tables hold what the records before it made.
+// again, and needs no key. What it applied stays. A refused delta changes nothing, so that the tables hold what the records before it made.
 use base::Answer;
 use base::Refusal;
+use blake3::Start;
+use blake3::bad_key;
+use blake3::start_of;
 use cell_nursery::Nursery;
 use cell_nursery::delay_in_range;
 use cell_nursery::no_nursery;
 use journal::JournalRead;
 use journal_scan::damages;
-use journal_scan::scan;
+use journal_scan::scan_from;
 use nursery_commit::apply_commit_held;
 use record_read::decode_record_held;
 ghost use mathlib.Core.Path.{_≡_};
-ghost use mathlib.Core.Bool.{true, false};
-ghost use Rattle.blake3.specs.Spec.{hash};
+ghost use mathlib.Core.Bool.{true};
+ghost use Rattle.blake3.specs.Mode.{modeOf, hashFrom};
 ghost use Rattle.cell_nursery.specs.Layout.{holds};
-ghost use Rattle.format.specs.RefusalLaws.{Whole, Matches};
-ghost use Rattle.journal.specs.Journal.{damaged, effect, readCall};
+ghost use Rattle.journal.specs.Journal.{effect, readCall, readUnder};
 ghost use Rattle.journal_read.specs.Reading.{stepped, recordCall, readOn};
 ghost use Rattle.journal_read.specs.ReadLaws.{refusedWith};
 
@@ -28,10 +30,10 @@ struct Step {
     len: usize,
 }
 
-// The record that s starts with, whose hash is right if it is whole, on tables that hold a state.
+// The record that s starts with, whose hash is taken on trust, on tables that hold a state.
 fn apply_record(r: Nursery, es: &mut [u64], ws: &mut [u64], cs: &mut [u8], s: &[u8]) -> Step
-    requires { ⌜ (holds r (now es) (now ws) (now cs) ≡ true) × (Whole (now s) → Matches hash (now s)) ⌝ }
-    ensures { λ q. ⌜ stepped q (now (es .exit)) (now (ws .exit)) (now (cs .exit)) ≡ recordCall hash r (now (es .entry)) (now (ws .entry)) (now (cs .entry)) (now (s .entry)) ⌝ }
+    requires { ⌜ holds r (now es) (now ws) (now cs) ≡ true ⌝ }
+    ensures { λ q. ⌜ stepped q (now (es .exit)) (now (ws .exit)) (now (cs .exit)) ≡ recordCall r (now (es .entry)) (now (ws .entry)) (now (cs .entry)) (now (s .entry)) ⌝ }
 {
     let d = decode_record_held(s);
     let answer = d.answer;
@@ -62,10 +64,10 @@ fn apply_record(r: Nursery, es: &mut [u64], ws: &mut [u64], cs: &mut [u8], s: &[
     }
 }
 
-// The records of s, none of which is damaged, on tables that hold a state. The place stays before the record that ends the reading.
+// The records of s, whose hashes are taken on trust, on tables that hold a state. The place stays before the record that ends the reading.
 fn read_records(r: Nursery, es: &mut [u64], ws: &mut [u64], cs: &mut [u8], s: &[u8]) -> JournalRead
-    requires { ⌜ (holds r (now es) (now ws) (now cs) ≡ true) × (damaged hash (now s) ≡ false) ⌝ }
-    ensures { λ j. ⌜ effect j (now (es .exit)) (now (ws .exit)) (now (cs .exit)) ≡ readOn hash r (now (es .entry)) (now (ws .entry)) (now (cs .entry)) (now (s .entry)) ⌝ }
+    requires { ⌜ holds r (now es) (now ws) (now cs) ≡ true ⌝ }
+    ensures { λ j. ⌜ effect j (now (es .exit)) (now (ws .exit)) (now (cs .exit)) ≡ readOn r (now (es .entry)) (now (ws .entry)) (now (cs .entry)) (now (s .entry)) ⌝ }
 {
     let mut q = r;
     let mut applied = 0;
@@ -114,23 +116,43 @@ fn refused(why: Refusal) -> JournalRead
 }
 
 // Reads the journal s into an empty nursery with a delay, in tables of any content. The delay is judged before a record is.
-pub fn read_journal(
+fn read_from(
+    start: Start,
     s: &[u8],
     delay: u64,
     es: &mut [u64],
     ws: &mut [u64],
     cs: &mut [u8],
 ) -> JournalRead
-    ensures { λ j. ⌜ effect j (now (es .exit)) (now (ws .exit)) (now (cs .exit)) ≡ readCall hash delay (now (s .entry)) (now (es .entry)) (now (ws .entry)) (now (cs .entry)) ⌝ }
+    ensures { λ j. ⌜ effect j (now (es .exit)) (now (ws .exit)) (now (cs .exit)) ≡ readCall (hashFrom start) delay (now (s .entry)) (now (es .entry)) (now (ws .entry)) (now (cs .entry)) ⌝ }
 {
     if !delay_in_range(delay) {
         return refused(Refusal::BadSetting);
     }
-    let pass = scan(s);
+    let pass = scan_from(start, s);
     let ended = pass.ended;
     if damages(ended) {
         return refused(Refusal::Damaged);
     }
     let fresh = nursery_table::new(delay, es, ws, cs);
     read_records(fresh.nursery, es, ws, cs, s)
+}
+
+// Reads a journal that was written under a key, or without one. The key is judged first, and becomes words once for all records.
+pub fn read_journal(
+    keyed: bool,
+    key: &[u8],
+    s: &[u8],
+    delay: u64,
+    es: &mut [u64],
+    ws: &mut [u64],
+    cs: &mut [u8],
+) -> JournalRead
+    ensures { λ j. ⌜ effect j (now (es .exit)) (now (ws .exit)) (now (cs .exit)) ≡ readUnder (modeOf keyed (now (key .entry))) delay (now (s .entry)) (now (es .entry)) (now (ws .entry)) (now (cs .entry)) ⌝ }
+{
+    if bad_key(keyed, key) {
+        return refused(Refusal::BadSetting);
+    }
+    let start = start_of(keyed, key);
+    read_from(start, s, delay, es, ws, cs)
 }

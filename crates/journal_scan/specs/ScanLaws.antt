@@ -29,11 +29,11 @@ module _ (hash : List ℕ → List ℕ) (s : List ℕ) where
   module _ (records place : ℕ) (x : Passing records place) where
     -- the pass ends here
     closed : (a : Answer) → recordsIn (passRecord hash) tt records place (drop place s) ≡ record { state = tt; records = records; place = place; ended = a }
-        → record { records = records; place = place; ended = a } ≡ scan hash s
+        → record { answer = Taken; records = records; place = place; ended = a } ≡ scan hash s
     unfolding scan
     closed a e = rw (← x .leads, e)
 
-    pub finished : place ≡ length s → record { records = records; place = length s; ended = Taken } ≡ scan hash s
+    pub finished : place ≡ length s → record { answer = Taken; records = records; place = length s; ended = Taken } ≡ scan hash s
     finished e = rw (← e) (closed Taken (rw (e, drop-length s) (records-end (passRecord hash) tt records (length s))))
 
     -- the record at this place; the bytes from there on are lent as a part of the journal
@@ -48,11 +48,11 @@ module _ (hash : List ℕ → List ℕ) (s : List ℕ) where
       on-rest = e ∙ ap (λ (l : List ℕ). decodeCall hash l) (take-all (length s - place) rest (omega (arith, length-drop place s)))
 
       -- it is refused
-      pub stopped : (r : Refusal) → q .answer ≡ Refused r → record { records = records; place = place; ended = q .answer } ≡ scan hash s
+      pub stopped : (r : Refusal) → q .answer ≡ Refused r → record { answer = Taken; records = records; place = place; ended = q .answer } ≡ scan hash s
       unfolding decodeCall decodedOf
       stopped r a = go (decode hash rest) refl on-rest
         where
-          go : (o : Outcome Decoding) → decode hash rest ≡ o → q ≡ decodedOf o → record { records = records; place = place; ended = q .answer } ≡ scan hash s
+          go : (o : Outcome Decoding) → decode hash rest ≡ o → q ≡ decodedOf o → record { answer = Taken; records = records; place = place; ended = q .answer } ≡ scan hash s
           go (refused y) i f =
               rw f (closed (Refused y) (records-refused (passRecord hash) tt records place y rest some-left (passed-refused hash rest y .1 i)))
           go (taken d) i f = absurd (not-refused (sym (ap (λ (z : Decoded). z .answer) f) ∙ a))

@@ -1,7 +1,14 @@
 // Decoding the record that bytes start with: its length, its hash, its payload and what the payload has after the last item are judged in this order.
 // Of the bytes only the hash is copied. Parsing doesn't judge the last of these: that is how records were read before they were exact.
+//
+// A record is judged by the hash from a start, which a caller makes once for all its records.
 use base::Answer;
 use base::Refusal;
+use blake3::Start;
+use blake3::bad_key;
+use blake3::hash_from;
+use blake3::start_of;
+use blake3::without_key;
 use byte_numbers::read_le32;
 use byte_numbers::read_le64;
 use byte_slices::copy_at;
@@ -19,9 +26,10 @@ ghost use lib.ListN.{length, take, drop};
 ghost use Rattle.base.specs.Logic.{eqbList};
 ghost use Rattle.base.specs.Answers.{refused};
 ghost use Rattle.blake3.specs.Spec.{hash};
+ghost use Rattle.blake3.specs.Mode.{modeOf, hashFrom};
 ghost use Rattle.format.specs.Record.{usedBytes};
-ghost use Rattle.format.specs.Calls.{decodedOf, parseCall, decodeCall};
-ghost use Rattle.format.specs.RefusalLaws.{Whole, Matches};
+ghost use Rattle.format.specs.Calls.{decodedOf, parseCall, decodeCall, decodeUnder};
+ghost use Rattle.format.specs.RefusalLaws.{statedHash};
 ghost use Rattle.record_read.specs.Judged.{payloadCall, exactCall, Framing};
 
 // The length of a whole record's payload, or the refusal by the tests before the hash.
@@ -56,12 +64,12 @@ fn stated_hash(s: &[u8]) -> [u8; 32]
 }
 
 // Whether that is the hash of the length and of the n bytes of payload behind it.
-fn hash_matches(s: &[u8], n: usize) -> bool
+fn hash_matches(start: Start, s: &[u8], n: usize) -> bool
     requires { ⌜ 40 + n ≤ length (now s) ⌝ }
-    ensures { λ r. ⌜ r ≡ eqbList (hash (take (8 + n) (drop 32 (now (s .entry))))) (take 32 (now (s .entry))) ⌝ }
+    ensures { λ r. ⌜ r ≡ eqbList (hashFrom start (take (8 + n) (drop 32 (now (s .entry))))) (take 32 (now (s .entry))) ⌝ }
 {
     let end = 40 + n;
-    let h = blake3::hash(&s[32..end]);
+    let h = hash_from(start, &s[32..end]);
     equal(&h, &s[0..32])
 }
 
@@ -116,14 +124,14 @@ fn frame(s: &[u8]) -> Framed
 }
 
 // Parses the record that s starts with, whatever its payload has after the last item; what follows it is ignored.
-pub fn parse_record(s: &[u8]) -> Decoded
-    ensures { λ r. ⌜ r ≡ parseCall hash (now (s .entry)) ⌝ }
+fn parse_from(start: Start, s: &[u8]) -> Decoded
+    ensures { λ r. ⌜ r ≡ parseCall (hashFrom start) (now (s .entry)) ⌝ }
 {
     let f = frame(s);
     match f {
         Framed::Refused(r) => refusal(r),
         Framed::Len(n) => {
-            if !hash_matches(s, n) {
+            if !hash_matches(start, s, n) {
                 return refusal(Refusal::Mismatch);
             }
             decode_payload(s, n)
@@ -131,10 +139,17 @@ pub fn parse_record(s: &[u8]) -> Decoded
     }
 }
 
-// Parses as parse_record does, where the hash of a whole record is known to be right: it isn't worked out again.
-pub fn parse_record_held(s: &[u8]) -> Decoded
-    requires { ⌜ (Whole (now s) → Matches hash (now s)) ⌝ }
+// Parses a record that was written without a key.
+pub fn parse_record(s: &[u8]) -> Decoded
     ensures { λ r. ⌜ r ≡ parseCall hash (now (s .entry)) ⌝ }
+{
+    let start = without_key();
+    parse_from(start, s)
+}
+
+// Parses a record whose hash is taken on trust: it isn't worked out, so that no start is needed.
+pub fn parse_record_held(s: &[u8]) -> Decoded
+    ensures { λ r. ⌜ r ≡ parseCall (statedHash (now (s .entry))) (now (s .entry)) ⌝ }
 {
     let f = frame(s);
     match f {
@@ -155,17 +170,27 @@ fn exact(d: Decoded) -> Decoded
 }
 
 // Decodes the record that s starts with, whose payload ends with its last item; what follows it is ignored.
-pub fn decode_record(s: &[u8]) -> Decoded
-    ensures { λ r. ⌜ r ≡ decodeCall hash (now (s .entry)) ⌝ }
+pub fn decode_from(start: Start, s: &[u8]) -> Decoded
+    ensures { λ r. ⌜ r ≡ decodeCall (hashFrom start) (now (s .entry)) ⌝ }
 {
-    let d = parse_record(s);
+    let d = parse_from(start, s);
     exact(d)
 }
 
-// Decodes as decode_record does, where the hash of a whole record is known to be right.
+// Decodes a record under a key, or without one. The key is judged before the record.
+pub fn decode_record(keyed: bool, key: &[u8], s: &[u8]) -> Decoded
+    ensures { λ r. ⌜ r ≡ decodeUnder (modeOf keyed (now (key .entry))) (now (s .entry)) ⌝ }
+{
+    if bad_key(keyed, key) {
+        return refusal(Refusal::BadSetting);
+    }
+    let start = start_of(keyed, key);
+    decode_from(start, s)
+}
+
+// Decodes a record whose hash is taken on trust.
 pub fn decode_record_held(s: &[u8]) -> Decoded
-    requires { ⌜ (Whole (now s) → Matches hash (now s)) ⌝ }
-    ensures { λ r. ⌜ r ≡ decodeCall hash (now (s .entry)) ⌝ }
+    ensures { λ r. ⌜ r ≡ decodeCall (statedHash (now (s .entry))) (now (s .entry)) ⌝ }
 {
     let d = parse_record_held(s);
     exact(d)

@@ -2,6 +2,10 @@
 // written goes in front.
 use base::Answer;
 use base::Refusal;
+use blake3::Start;
+use blake3::bad_key;
+use blake3::hash_from;
+use blake3::start_of;
 use byte_numbers::write_le16;
 use byte_numbers::write_le32;
 use byte_numbers::write_le64;
@@ -22,13 +26,13 @@ ghost use mathlib.Core.Bool.{true, false};
 ghost use Prim.Native.Nat.{_+_, _-_, _≤_};
 ghost use lib.ListN.{length, take, drop};
 ghost use Rattle.base.specs.Logic.{flat, max32};
-ghost use Rattle.blake3.specs.Spec.{hash};
+ghost use Rattle.blake3.specs.Mode.{modeOf, hashFrom};
 ghost use Rattle.cell_nursery.specs.Entries.{insertBytes};
 ghost use Rattle.cell_nursery.specs.Calls.{lengthWidth};
 ghost use Rattle.delta_items.specs.Walk.{cellLen, insertLen, insertIn, insertsIn, insertsFit, longCell, deltaIn};
 ghost use Rattle.format.specs.Payload.{payloadBytes};
 ghost use Rattle.format.specs.Record.{hashed};
-ghost use Rattle.format.specs.Calls.{effect, encodeCall};
+ghost use Rattle.format.specs.Calls.{effect, encodeCall, encodeUnder};
 ghost use Rattle.record_write.specs.EncodeLaws.{Body};
 ghost use Rattle.record_write.specs.Laid.{laidAt, headBytes, refusedWith};
 
@@ -88,11 +92,11 @@ fn write_head(out: &mut [u8], payload: u64, id: u64, inserts: u64, removes: u64)
 }
 
 // The hash of what stands behind its place, up to `len`, goes in front.
-fn write_hash(out: &mut [u8], len: usize)
+fn write_hash(start: Start, out: &mut [u8], len: usize)
     requires { ⌜ (40 ≤ len) × (len ≤ length (now out)) ⌝ }
-    ensures { λ _. ⌜ now (out .exit) ≡ laidAt (now (out .entry)) 0 (hash (take (len - 32) (drop 32 (now (out .entry))))) ⌝ }
+    ensures { λ _. ⌜ now (out .exit) ≡ laidAt (now (out .entry)) 0 (hashFrom start (take (len - 32) (drop 32 (now (out .entry))))) ⌝ }
 {
-    let h = blake3::hash(&out[32..len]);
+    let h = hash_from(start, &out[32..len]);
     copy_at(out, 0, &h);
 }
 
@@ -118,7 +122,8 @@ fn write_body(
 }
 
 // The record of the delta that is lent goes into the output: 20, 14, 15. Nothing of the output beyond the record is touched.
-pub fn encode_record(
+fn encode_from(
+    start: Start,
     id: u64,
     wide: bool,
     inserts: u64,
@@ -126,7 +131,7 @@ pub fn encode_record(
     items: &[u8],
     out: &mut [u8],
 ) -> Encoded
-    ensures { λ r. ⌜ effect r (now (out .exit)) ≡ encodeCall hash id wide inserts removes (now (items .entry)) (now (out .entry)) ⌝ }
+    ensures { λ r. ⌜ effect r (now (out .exit)) ≡ encodeCall (hashFrom start) id wide inserts removes (now (items .entry)) (now (out .entry)) ⌝ }
 {
     let End::At(end) = removes_at(items, wide, inserts, removes) else {
         return refusal(Refusal::Broken);
@@ -142,7 +147,7 @@ pub fn encode_record(
         return refusal(Refusal::OutputFull);
     }
     write_body(out, id, wide, inserts, removes, items, end, payload);
-    write_hash(out, len);
+    write_hash(start, out, len);
     Encoded {
         answer: Answer::Taken,
         len,
@@ -154,4 +159,24 @@ pub fn encode_record(
             remove_ops: removes,
         },
     }
+}
+
+// The record of a delta under a key, or without one. The key is judged before what is lent.
+pub fn encode_record(
+    keyed: bool,
+    key: &[u8],
+    id: u64,
+    wide: bool,
+    inserts: u64,
+    removes: u64,
+    items: &[u8],
+    out: &mut [u8],
+) -> Encoded
+    ensures { λ r. ⌜ effect r (now (out .exit)) ≡ encodeUnder (modeOf keyed (now (key .entry))) id wide inserts removes (now (items .entry)) (now (out .entry)) ⌝ }
+{
+    if bad_key(keyed, key) {
+        return refusal(Refusal::BadSetting);
+    }
+    let start = start_of(keyed, key);
+    encode_from(start, id, wide, inserts, removes, items, out)
 }

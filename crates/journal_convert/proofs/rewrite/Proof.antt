@@ -1,15 +1,17 @@
 -- `journal_convert::rewrite`. The loop's invariant: the outputs, filled with what is ahead, are those that are wanted.
 -- The measure is what is left of the journal's bytes. Assumes nothing.
-use mathlib.Core.Path.{refl}
+use mathlib.Core.Path.{refl, ap, _∙_}
 use Prim.Native.Nat.{_+_, _-_, _≤_, _<_}
 use native.Mathlib.Omega.{arith}
-use lib.ListN.{length}
+use lib.ListN.{length, take, drop}
 use borrow.Author.Needs.{needs}
 use Rattle.slices.specs.Laws.{part-lent}
 use Rattle.slices.specs.ByteLaws.{u8-bytes}
 use Rattle.blake3.specs.Spec.{hash}
 use Rattle.blake3.specs.Equations.{length-hash}
 use Rattle.format.specs.Record.{usedBytes}
+use Rattle.format.specs.Calls.{decodedOf, parseCall}
+use Rattle.format.specs.RefusalLaws.{parse-known}
 use Rattle.journal_convert.specs.RecordLaws.{stopAhead, Turn}
 use Rattle.journal_convert.specs.PassLaws.{Writing, writing-start, writing-next, stop-known, known, later-turn, kept-room, list-room, rest-room, written, list-written}
 use Rattle.journal_convert.proofs.rewrite.Statement.{statement}
@@ -31,12 +33,15 @@ more c =
 turn : (c : tie.After-parse-record-held Inv-loop μ-loop) →
     let q = c .parse-record-held .result in
     Turn hash (c .before .before .before .before .before .before .before .args .s .now) (c .before .before .before .loop .place) (q .stats .«payload_bytes») (usedBytes (q .stats))
+unfolding parseCall
 turn c =
     let q = c .parse-record-held in
     let l = c .before .before .before .loop in
     let x = c .before .before .before .before .before .before in
     let s = x .before .args .s .now in
-    later-turn hash s (l .place) (l .inv .inside) (q .result) (q .ensures) (u8-bytes s (λ i. x .shared-slice-known .given i .fits)) (more (c .before .before))
+    let part = take (length s - l .place) (drop (l .place) s) in
+    let same = q .ensures ∙ ap decodedOf (parse-known hash part (known hash s (l .place) (l .inv .inside) (more (c .before .before)))) in
+    later-turn hash s (l .place) (l .inv .inside) (q .result) same (u8-bytes s (λ i. x .shared-slice-known .given i .fits)) (more (c .before .before))
 
 loop-holds : tie.Need-loop-holds Inv-loop μ-loop
 loop-holds c =
@@ -53,9 +58,7 @@ part-parse-record-held-end : tie.Need-part-parse-record-held-end Inv-loop μ-loo
 part-parse-record-held-end c = omega arith
 
 parse-record-held-requires : tie.Need-parse-record-held-requires Inv-loop μ-loop
-parse-record-held-requires c κs =
-    let l = c .before .before .loop in
-    known hash (c .before .before .before .before .before .before .args .s .now) (l .place) (l .inv .inside) (more (c .before))
+parse-record-held-requires c κs = search needs
 
 add-used : tie.Need-add-used Inv-loop μ-loop
 add-used c =

@@ -7,7 +7,6 @@ use mathlib.Core.Path.{refl, ap, _∙_}
 use mathlib.Core.List.{List}
 use Prim.Native.Nat.{ℕ, _+_}
 use native.Mathlib.Omega.{arith}
-use Rattle.blake3.specs.Spec.{hash}
 use Rattle.journal_read.specs.Reading.{beside}
 use Rattle.journal_read.specs.RecordLaws.{record-refused, record-taken}
 use borrow.Author.Needs.{needs}
@@ -23,7 +22,7 @@ enum-told c = search needs
 returns : tie.Need-returns
 returns c =
     let a = c .before .before .before .before .before .before .before .args in
-    record-refused hash (a .r) (a .es .now) (a .ws .now) (a .cs .now) (a .s .now) (c .before .before .decode-record-held .result) (c .before .before .decode-record-held .ensures) (c .enum-told .given .0 .0) (c .enum-told .given .1)
+    record-refused (a .r) (a .es .now) (a .ws .now) (a .cs .now) (a .s .now) (c .before .before .decode-record-held .result) (c .before .before .decode-record-held .ensures) (c .enum-told .given .0 .0) (c .enum-told .given .1)
 
 enum-told-2 : tie.Need-enum-told-2
 enum-told-2 c = search needs
@@ -32,7 +31,7 @@ add-len : tie.Need-add-len
 add-len c =
     let f = c .before .before .before in
     let a = f .before .before .before .before .before .args in
-    let w = record-taken hash (a .r) (a .es .now) (a .ws .now) (a .cs .now) (a .s .now) (f .decode-record-held .result) (f .decode-record-held .ensures) (c .before .enum-told2 .given .1) in
+    let w = record-taken (a .r) (a .es .now) (a .ws .now) (a .cs .now) (a .s .now) (f .decode-record-held .result) (f .decode-record-held .ensures) (c .before .enum-told2 .given .1) in
     let g = f .before .before .before .before .before .good in
     omega (arith, w .inside)
 
@@ -46,7 +45,7 @@ part-apply-commit-held-end : tie.Need-part-apply-commit-held-end
 part-apply-commit-held-end c =
     let f = c .before .before .before .before .before .before in
     let a = f .before .before .before .before .before .args in
-    let w = record-taken hash (a .r) (a .es .now) (a .ws .now) (a .cs .now) (a .s .now) (f .decode-record-held .result) (f .decode-record-held .ensures) (c .before .before .before .before .enum-told2 .given .1) in
+    let w = record-taken (a .r) (a .es .now) (a .ws .now) (a .cs .now) (a .s .now) (f .decode-record-held .result) (f .decode-record-held .ensures) (c .before .before .before .before .enum-told2 .given .1) in
     w .inside
 
 apply-commit-held-requires : tie.Need-apply-commit-held-requires
@@ -65,13 +64,13 @@ returns-2 : tie.Need-returns-2
 returns-2 c =
     let f = c .before .before .before .before .before .before .before .before .before .before .before .before .before .before .before in
     let a = f .before .before .before .before .before .args in
-    let w = record-taken hash (a .r) (a .es .now) (a .ws .now) (a .cs .now) (a .s .now) (f .decode-record-held .result) (f .decode-record-held .ensures) (c .before .before .before .before .before .before .before .before .before .before .before .before .before .enum-told2 .given .1) in
+    let w = record-taken (a .r) (a .es .now) (a .ws .now) (a .cs .now) (a .s .now) (f .decode-record-held .result) (f .decode-record-held .ensures) (c .before .before .before .before .before .before .before .before .before .before .before .before .before .enum-told2 .given .1) in
     let d = f .decode-record-held .result in
     let n = d .«items_len» in
     ap (λ (x : Changed). beside (56 + n) x)
     (c .before .before .before .before .before .before .before .apply-commit-held .ensures
     ∙ ap (λ (l : List ℕ). deltaCall (a .r) (a .es .now) (a .ws .now) (a .cs .now) false (d .stats .«insert_ops») (d .stats .«remove_ops») l) (part-lent (a .s .now) 56 (56 + n) n refl))
-    ∙ w .call (f .before .before .before .before .before .pre .0)
+    ∙ w .call (f .before .before .before .before .before .pre)
 
 pub apply-record-spec : {M : Type 1} → statement M
 apply-record-spec =

@@ -1,96 +1,47 @@
--- `journal_read::read_journal`. The delay is judged; where the first pass finds no damage, the records are read on tables that hold the empty state.
+-- `journal_read::read_journal`. The key is judged; then the journal is read, by the hash from the mode's start.
 -- Assumes nothing.
 use mathlib.Core.Path.{_≡_, sym, ap, _∙_}
-use mathlib.Core.Bool.{true, false}
-use borrow.Author.Tests.{not-true, not-false}
+use mathlib.Core.List.{List}
+use Prim.Native.Nat.{ℕ}
 use borrow.Author.Needs.{needs}
-use Rattle.blake3.specs.Spec.{hash}
-use Rattle.cell_nursery.specs.Layout.{delayInRange}
+use Rattle.blake3.specs.Mode.{modeOf}
+use Rattle.blake3.specs.ModeLaws.{started}
 use Rattle.journal.specs.declared.JournalRead.{JournalRead}
-use Rattle.journal.specs.Journal.{effect, damaged}
-use Rattle.journal.specs.ReadLaws.{read-undamaged}
-use Rattle.journal_read.specs.ReadLaws.{fresh-holds, fresh-read, pass-says, not-set, not-read}
+use Rattle.journal.specs.Journal.{effect, notRead, readCall}
+use Rattle.journal.specs.ModeLaws.{read-bad-key, read-good}
 use Rattle.journal_read.proofs.read_journal.Statement.{statement}
 use Rattle.journal_read.proofs.read_journal.Tie as tie
 
--- the delay is in range, and no record is damaged
-set : (c : tie.Else1) → delayInRange (c .before .before .before .before .before .before .args .delay) ≡ true
-set c = sym (c .before .delay-in-range .ensures) ∙ not-false _ (c .if1 .left)
-
-sound : (c : tie.Else2) → damaged hash (c .before .before .before .before .before .before .before .before .before .args .s .now) ≡ false
-sound c = let p = c .before .before .scan in pass-says hash (c .before .before .before .before .before .before .before .before .before .args .s .now) (p .result) false (p .ensures) (sym (c .if2 .left) ∙ c .before .damages .ensures)
-
-delay-in-range-requires : tie.Need-delay-in-range-requires
-delay-in-range-requires c κs = search needs
-
-refused-requires : tie.Need-refused-requires
-refused-requires c κs = search needs
-
 returns : tie.Need-returns
+unfolding notRead
 returns c =
-    let a = c .before .before .before .before .before .before .before .args in
+    let a = c .before .before .before .before .before .before .before .before .args in
     ap (λ (j : JournalRead). effect j (a .es .now) (a .ws .now) (a .cs .now)) (c .refused .ensures)
-    ∙ not-set hash (a .delay) (a .s .now) (a .es .now) (a .ws .now) (a .cs .now) (sym (c .before .before .delay-in-range .ensures) ∙ not-true _ (c .before .if1 .taken))
+    ∙ sym (read-bad-key (modeOf (a .keyed) (a .key .now)) (a .delay) (a .s .now) (a .es .now) (a .ws .now) (a .cs .now) (sym (c .before .before .bad-key .ensures) ∙ c .before .if1 .taken))
 
-scan-requires : tie.Need-scan-requires
-scan-requires c κs = search needs
-
-damages-requires : tie.Need-damages-requires
-damages-requires c κs = search needs
-
-refused-requires-2 : tie.Need-refused-requires-2
-refused-requires-2 c κs = search needs
+start-of-requires : tie.Need-start-of-requires
+start-of-requires c κs = sym (c .before .bad-key .ensures) ∙ c .if1 .left
 
 returns-2 : tie.Need-returns-2
 returns-2 c =
-    let a = c .before .before .before .before .before .before .before .before .before .before .args in
-    let p = c .before .before .before .scan in
-    ap (λ (j : JournalRead). effect j (a .es .now) (a .ws .now) (a .cs .now)) (c .refused2 .ensures)
-    ∙ not-read hash (a .delay) (a .s .now) (a .es .now) (a .ws .now) (a .cs .now) (set (c .before .before .before .before)) (pass-says hash (a .s .now) (p .result) true (p .ensures) (sym (c .before .if2 .taken) ∙ c .before .before .damages .ensures))
-
-new-requires : tie.Need-new-requires
-new-requires c κs = search needs
-
-read-records-requires : tie.Need-read-records-requires
-read-records-requires c κs =
-    let n = c .before .before .before .before .before .before .before .before .before .new in
-    let g = c .before .before .before .before .before .before .before .before .before .before .before .before .before in
-    let a = g .before .before .before .before .before .before .before .before .before .args in
-    (fresh-holds (a .delay) (set (g .before .before .before)) (a .es .now) (a .ws .now) (a .cs .now) (n .result) (n .last .1 .0) (n .last .1 .1 .0) (n .last .1 .1 .1 .0) (n .ensures), sound g)
-
-same-length : tie.Need-same-length
-same-length c = search needs
-
-same-length-2 : tie.Need-same-length-2
-same-length-2 c = search needs
-
-same-length-3 : tie.Need-same-length-3
-same-length-3 c = search needs
-
-returns-3 : tie.Need-returns-3
-returns-3 c =
-    let n = c .before .before .before .before .before .before .before .before .before .before .before .before .before .before .before .before .new in
-    let g = c .before .before .before .before .before .before .before .before .before .before .before .before .before .before .before .before .before .before .before .before in
-    let a = g .before .before .before .before .before .before .before .before .before .args in
-    let o = set (g .before .before .before) in
-    c .before .before .before .before .before .before .read-records .ensures
-    ∙ fresh-read (a .delay) o (a .es .now) (a .ws .now) (a .cs .now) (n .result) (n .last .1 .0) (n .last .1 .1 .0) (n .last .1 .1 .1 .0) (n .ensures) hash (a .s .now)
-    ∙ sym (read-undamaged hash (a .delay) (a .s .now) (a .es .now) (a .ws .now) (a .cs .now) o (sound g))
+    let f = c .before .before .before .before .before .before .before .before .before .before .before in
+    let a = f .before .before .before .before .before .before .before .args in
+    let m = modeOf (a .keyed) (a .key .now) in
+    let good = sym (f .before .bad-key .ensures) ∙ f .if1 .left in
+    c .before .before .before .before .before .before .read-from .ensures
+    ∙ ap (λ (h : List ℕ → List ℕ). readCall h (a .delay) (a .s .now) (a .es .now) (a .ws .now) (a .cs .now)) (started m (c .before .before .before .before .before .before .before .before .before .before .start-of .ensures))
+    ∙ sym (read-good m (a .delay) (a .s .now) (a .es .now) (a .ws .now) (a .cs .now) good)
 
 pub read-journal-spec : {M : Type 1} → statement M
 read-journal-spec =
     tie.close
     (tie.spec
-    delay-in-range-requires
-    refused-requires
+    (λ c κs. search needs)
+    (λ c κs. search needs)
     returns
-    scan-requires
-    damages-requires
-    refused-requires-2
-    returns-2
-    new-requires
-    read-records-requires
-    same-length
-    same-length-2
-    same-length-3
-    returns-3)
+    start-of-requires
+    (λ c κs. search needs)
+    (λ c. search needs)
+    (λ c. search needs)
+    (λ c. search needs)
+    returns-2)

@@ -5,14 +5,12 @@ use mathlib.Core.Path.{refl}
 use Prim.Native.Nat.{_-_}
 use native.Mathlib.Omega.{arith}
 use lib.ListN.{length}
-use Rattle.blake3.specs.Spec.{hash}
-use Rattle.journal_laws.specs.EndLaws.{start}
-use Rattle.journal_read.specs.ReadLaws.{Reading, Applied, known, reach, advanced, stopped, finished}
+use Rattle.journal_read.specs.ReadLaws.{Reading, Applied, reach, advanced, stopped, finished}
 use Rattle.journal_read.proofs.read_records.Statement.{statement}
 use Rattle.journal_read.proofs.read_records.Tie as tie
 
 abbrev Inv-loop : tie.InvT-loop
-Inv-loop es₀ ws₀ cs₀ s q₀ applied₀ place₀ end es ws cs q applied place = Reading hash s q₀ es₀ ws₀ cs₀ q es ws cs applied place
+Inv-loop es₀ ws₀ cs₀ s q₀ applied₀ place₀ end es ws cs q applied place = Reading s q₀ es₀ ws₀ cs₀ q es ws cs applied place
 
 abbrev μ-loop : tie.MeasureT-loop
 μ-loop es₀ ws₀ cs₀ s q₀ applied₀ place₀ end es ws cs q applied place = length s - place
@@ -23,13 +21,13 @@ turn : (c : tie.After-enum-told2 Inv-loop μ-loop) →
     let a = f .before .before .before .before .before .before .before .before .before .before .before .args in
     let l = f .before .before .before .before .before .before .loop in
     let q = f .apply-record in
-    Applied hash (a .s .now) (a .r) (a .es .now) (a .ws .now) (a .cs .now) (q .result .nursery) (q .result .len) (q .last .1 .0) (q .last .1 .1 .0) (q .last .1 .1 .1 .0) (l .applied) (l .place)
+    Applied (a .s .now) (a .r) (a .es .now) (a .ws .now) (a .cs .now) (q .result .nursery) (q .result .len) (q .last .1 .0) (q .last .1 .1 .0) (q .last .1 .1 .1 .0) (l .applied) (l .place)
 turn c =
     let f = c .before .before .before .before .before .before .before .before .before .before in
     let a = f .before .before .before .before .before .before .before .before .before .before .before .args in
     let l = f .before .before .before .before .before .before .loop in
     let q = f .apply-record in
-    advanced hash (a .s .now) (a .r) (a .es .now) (a .ws .now) (a .cs .now) (l .q) (l .es) (l .ws) (l .cs) (l .applied) (l .place) (l .inv)
+    advanced (a .s .now) (a .r) (a .es .now) (a .ws .now) (a .cs .now) (l .q) (l .es) (l .ws) (l .cs) (l .applied) (l .place) (l .inv)
     (omega (arith, l .inv .inside, f .before .before .before .before .before .if1)) (λ i. f .before .before .before .before .before .before .before .shared-slice-known .given i .fits) (q .result) (q .last .1 .0) (q .last .1 .1 .0) (q .last .1 .1 .1 .0) (q .ensures)
     (λ i. c .before .before .before .before .before .before .before .before .slice-known4 .given i .fits) (λ i. c .before .before .before .before .before .before .slice-known5 .given i .fits) (c .enum-told2 .given .1)
 
@@ -38,14 +36,13 @@ loop-holds c =
     record {
       u64-es = λ i. c .before .before .before .slice-known .given i .fits;
       u64-ws = λ i. c .before .before .slice-known2 .given i .fits;
-      holding = c .before .before .before .before .pre .0;
+      holding = c .before .before .before .before .pre;
       same-delay = refl;
       size-es = refl;
       size-ws = refl;
       size-cs = refl;
       inside = omega arith;
       counted = omega arith;
-      reached = start;
       leads = refl;
     }
 
@@ -59,13 +56,7 @@ part-apply-record-end : tie.Need-part-apply-record-end Inv-loop μ-loop
 part-apply-record-end c = omega (arith, c .before .before .before .before .loop .inv .inside)
 
 apply-record-requires : tie.Need-apply-record-requires Inv-loop μ-loop
-apply-record-requires c κs =
-    let f = c .before .before .before .before .before in
-    let a = f .before .before .before .before .before .args in
-    let l = f .loop in (
-      l .inv .holding,
-      known hash (a .s .now) (a .r) (a .es .now) (a .ws .now) (a .cs .now) (l .q) (l .es) (l .ws) (l .cs) (l .applied) (l .place) (l .inv) (f .before .before .before .before .before .pre .1),
-    )
+apply-record-requires c κs = c .before .before .before .before .before .loop .inv .holding
 
 add-after : tie.Need-add-after Inv-loop μ-loop
 add-after c =
@@ -75,7 +66,7 @@ add-after c =
     let q = f .apply-record in
     let size = f .before .before .before .before .before .before .before .before .before .before .before .good in
     let h =
-    reach hash (a .s .now) (a .r) (a .es .now) (a .ws .now) (a .cs .now) (l .q) (l .es) (l .ws) (l .cs) (l .applied) (l .place) (l .inv)
+    reach (a .s .now) (a .r) (a .es .now) (a .ws .now) (a .cs .now) (l .q) (l .es) (l .ws) (l .cs) (l .applied) (l .place) (l .inv)
     (omega (arith, l .inv .inside, f .before .before .before .before .before .if1)) (λ i. f .before .before .before .before .before .before .before .shared-slice-known .given i .fits) (q .result) (q .last .1 .0) (q .last .1 .1 .0) (q .last .1 .1 .1 .0) (q .ensures) in
     omega arith
 
@@ -109,7 +100,7 @@ returns : tie.Need-returns Inv-loop μ-loop
 returns c =
     let a = c .before .before .before .before .before .before .args in
     let l = c .before .loop in
-    finished hash (a .s .now) (a .r) (a .es .now) (a .ws .now) (a .cs .now) (l .q) (l .es) (l .ws) (l .cs) (l .applied) (l .place) (l .inv) (omega (arith, c .if1))
+    finished (a .s .now) (a .r) (a .es .now) (a .ws .now) (a .cs .now) (l .q) (l .es) (l .ws) (l .cs) (l .applied) (l .place) (l .inv) (omega (arith, c .if1))
 
 same-length-4 : tie.Need-same-length-4 Inv-loop μ-loop
 same-length-4 c = search needs
@@ -126,7 +117,7 @@ returns-2 c =
     let a = f .before .before .before .before .before .before .before .before .before .before .before .args in
     let l = f .before .before .before .before .before .before .loop in
     let q = f .apply-record in
-    stopped hash (a .s .now) (a .r) (a .es .now) (a .ws .now) (a .cs .now) (l .q) (l .es) (l .ws) (l .cs) (l .applied) (l .place) (l .inv)
+    stopped (a .s .now) (a .r) (a .es .now) (a .ws .now) (a .cs .now) (l .q) (l .es) (l .ws) (l .cs) (l .applied) (l .place) (l .inv)
     (omega (arith, l .inv .inside, f .before .before .before .before .before .if1)) (λ i. f .before .before .before .before .before .before .before .shared-slice-known .given i .fits) (q .result) (q .last .1 .0) (q .last .1 .1 .0) (q .last .1 .1 .1 .0) (q .ensures)
     (c .enum-told .given .0 .0) (c .enum-told .given .1)
 

@@ -1,105 +1,34 @@
--- `journal_scan::scan`. The loop's invariant: the rest of the journal leads to the end that is wanted.
--- The measure is what is left of the journal's bytes. Assumes nothing.
+-- `journal_scan::scan`. The key is judged; then the records are passed, by the hash from the mode's start.
+-- Assumes nothing.
+use mathlib.Core.Path.{_≡_, sym, ap, _∙_}
+use mathlib.Core.List.{List}
+use Prim.Native.Nat.{ℕ}
 use borrow.Author.Needs.{needs}
-use mathlib.Core.Path.{refl}
-use Prim.Native.Nat.{_+_, _-_}
-use native.Mathlib.Omega.{arith}
-use lib.ListN.{length}
-use Rattle.blake3.specs.Spec.{hash}
-use Rattle.journal_scan.specs.ScanLaws.{Passing, passed, stopped, finished}
+use Rattle.blake3.specs.Mode.{modeOf}
+use Rattle.blake3.specs.ModeLaws.{started}
+use Rattle.journal.specs.Journal as journal
+use Rattle.journal.specs.Journal.{notScanned}
+use Rattle.journal.specs.ModeLaws.{scan-bad, scan-good}
 use Rattle.journal_scan.proofs.scan.Statement.{statement}
 use Rattle.journal_scan.proofs.scan.Tie as tie
 
-abbrev Inv-loop : tie.InvT-loop
-Inv-loop s records₀ place₀ end records place = Passing hash s records place
-
-abbrev μ-loop : tie.MeasureT-loop
-μ-loop s records₀ place₀ end records place = length s - place
-
--- the record at hand was taken
-turn : (c : tie.After-enum-told2 Inv-loop μ-loop) →
-    let f = c .before .before in
-    let a = f .before .before .before .before .before .args in
-    let l = f .before .before .before .loop in
-    Passing hash (a .s .now) (l .records + 1) (l .place + (56 + f .decode-record .result .«items_len»))
-turn c =
-    let f = c .before .before in
-    let a = f .before .before .before .before .before .args in
-    let l = f .before .before .before .loop in
-    passed hash (a .s .now) (l .records) (l .place) (l .inv) (omega (arith, l .inv .inside, f .before .before .if1)) (f .decode-record .result) (f .decode-record .ensures) (c .enum-told2 .given .1)
-
-loop-holds : tie.Need-loop-holds Inv-loop μ-loop
-loop-holds c = record { inside = omega arith; counted = omega arith; leads = refl }
-
-sub-decode-record : tie.Need-sub-decode-record Inv-loop μ-loop
-sub-decode-record c = omega (arith, c .before .loop .inv .inside)
-
-part-decode-record-start : tie.Need-part-decode-record-start Inv-loop μ-loop
-part-decode-record-start c = omega (arith, c .before .loop .inv .inside)
-
-part-decode-record-end : tie.Need-part-decode-record-end Inv-loop μ-loop
-part-decode-record-end c = omega (arith, c .before .loop .inv .inside)
-
-decode-record-requires : tie.Need-decode-record-requires Inv-loop μ-loop
-decode-record-requires c κs = search needs
-
-enum-told : tie.Need-enum-told Inv-loop μ-loop
-enum-told c = search needs
-
-enum-told-2 : tie.Need-enum-told-2 Inv-loop μ-loop
-enum-told-2 c = search needs
-
-add-records : tie.Need-add-records Inv-loop μ-loop
-add-records c =
-    let size = c .before .before .before .before .before .before .before .good in
-    omega (arith, turn c .counted, turn c .inside)
-
-add-place : tie.Need-add-place Inv-loop μ-loop
-add-place c =
-    let size = c .before .before .before .before .before .before .before .before .good in
-    omega (arith, turn (c .before) .inside)
-
-add-place-2 : tie.Need-add-place-2 Inv-loop μ-loop
-add-place-2 c =
-    let size = c .before .before .before .before .before .before .before .before .good in
-    omega (arith, turn (c .before) .inside)
-
-loop-less : tie.Need-loop-less Inv-loop μ-loop
-loop-less c = omega (arith, turn (c .before) .inside)
-
-loop-again : tie.Need-loop-again Inv-loop μ-loop
-loop-again c = turn (c .before)
-
-returns : tie.Need-returns Inv-loop μ-loop
+returns : tie.Need-returns
+unfolding notScanned
 returns c =
-    let a = c .before .before .before .args in
-    let l = c .before .loop in
-    finished hash (a .s .now) (l .records) (l .place) (l .inv) (omega (arith, c .if1))
+    let a = c .before .before .before .before .args in
+    sym (scan-bad (modeOf (a .keyed) (a .key .now)) (a .s .now) (sym (c .before .bad-key .ensures) ∙ c .if1 .taken))
 
-returns-2 : tie.Need-returns-2 Inv-loop μ-loop
+start-of-requires : tie.Need-start-of-requires
+start-of-requires c κs = sym (c .before .bad-key .ensures) ∙ c .if1 .left
+
+returns-2 : tie.Need-returns-2
 returns-2 c =
-    let f = c .before .before in
-    let a = f .before .before .before .before .before .args in
-    let l = f .before .before .before .loop in
-    stopped hash (a .s .now) (l .records) (l .place) (l .inv) (omega (arith, l .inv .inside, f .before .before .if1)) (f .decode-record .result) (f .decode-record .ensures) (c .enum-told .given .0 .0) (c .enum-told .given .1)
+    let a = c .before .before .before .before .before .before .args in
+    let m = modeOf (a .keyed) (a .key .now) in
+    let good = sym (c .before .before .before .bad-key .ensures) ∙ c .before .before .if1 .left in
+    c .scan-from .ensures
+    ∙ ap (λ (h : List ℕ → List ℕ). journal.scan h (a .s .now)) (started m (c .before .start-of .ensures))
+    ∙ sym (scan-good m (a .s .now) good)
 
 pub scan-spec : {M : Type 1} → statement M
-scan-spec =
-    tie.close
-    (tie.spec
-    Inv-loop
-    μ-loop
-    loop-holds
-    sub-decode-record
-    part-decode-record-start
-    part-decode-record-end
-    decode-record-requires
-    enum-told
-    enum-told-2
-    add-records
-    add-place
-    add-place-2
-    loop-less
-    loop-again
-    returns
-    returns-2)
+scan-spec = tie.close (tie.spec (λ c κs. search needs) returns start-of-requires (λ c κs. search needs) returns-2)

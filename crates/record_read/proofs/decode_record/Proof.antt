@@ -1,24 +1,33 @@
--- `record_read::decode_record`. What was parsed, judged by what it has left over.
+-- `record_read::decode_record`. The key is judged; then the record, by the hash from the mode's start.
 -- Assumes nothing.
-use mathlib.Core.Path.{ap, _∙_}
+use mathlib.Core.Path.{_≡_, sym, ap, _∙_}
+use mathlib.Core.Bool.{true, false}
+use mathlib.Core.List.{List}
+use Prim.Native.Nat.{ℕ}
 use borrow.Author.Needs.{needs}
-use Rattle.slices.specs.ByteLaws.{u8-bytes}
-use Rattle.blake3.specs.Spec.{hash}
-use Rattle.record_read.specs.Judged.{exactCall}
-use Rattle.record_read.specs.DecodeLaws.{used-inside, exact-parsed}
+use Rattle.blake3.specs.Mode.{modeOf}
+use Rattle.blake3.specs.ModeLaws.{started}
+use Rattle.format.specs.Calls.{decodeCall}
+use Rattle.format.specs.ModeLaws.{decode-bad, decode-good}
 use Rattle.record_read.proofs.decode_record.Statement.{statement}
 use Rattle.record_read.proofs.decode_record.Tie as tie
 
-parse-record-requires : tie.Need-parse-record-requires
-parse-record-requires c κs = search needs
-
-exact-requires : tie.Need-exact-requires
-exact-requires c κs =
-    let s = c .before .before .args .s .now in
-    rw (c .parse-record .ensures) (used-inside hash s (u8-bytes s (λ i. c .before .shared-slice-known .given i .fits)))
-
 returns : tie.Need-returns
-returns c = c .exact .ensures ∙ ap exactCall (c .before .parse-record .ensures) ∙ exact-parsed hash (c .before .before .before .args .s .now)
+returns c =
+    let a = c .before .before .before .before .before .args in
+    c .refusal .ensures ∙ sym (decode-bad (modeOf (a .keyed) (a .key .now)) (a .s .now) (sym (c .before .before .bad-key .ensures) ∙ c .before .if1 .taken))
+
+start-of-requires : tie.Need-start-of-requires
+start-of-requires c κs = sym (c .before .bad-key .ensures) ∙ c .if1 .left
+
+returns-2 : tie.Need-returns-2
+returns-2 c =
+    let a = c .before .before .before .before .before .before .args in
+    let m = modeOf (a .keyed) (a .key .now) in
+    let good = sym (c .before .before .before .bad-key .ensures) ∙ c .before .before .if1 .left in
+    c .decode-from .ensures
+    ∙ ap (λ (h : List ℕ → List ℕ). decodeCall h (a .s .now)) (started m (c .before .start-of .ensures))
+    ∙ sym (decode-good m (a .s .now) good)
 
 pub decode-record-spec : {M : Type 1} → statement M
-decode-record-spec = tie.close (tie.spec parse-record-requires exact-requires returns)
+decode-record-spec = tie.close (tie.spec (λ c κs. search needs) (λ c κs. search needs) returns start-of-requires (λ c κs. search needs) returns-2)

@@ -7,7 +7,7 @@ use native.Mathlib.Omega.{arith}
 use borrow.Author.Needs.{needs}
 use lib.ListN.{take}
 use Rattle.base.specs.Logic.{eqbList}
-use Rattle.blake3.specs.Spec.{hash}
+use Rattle.blake3.specs.Mode.{hashFrom}
 use Rattle.slices.specs.Laws.{part-lent}
 use Rattle.record_read.proofs.hash_matches.Statement.{statement}
 use Rattle.record_read.proofs.hash_matches.Tie as tie
@@ -15,17 +15,17 @@ use Rattle.record_read.proofs.hash_matches.Tie as tie
 add-end : tie.Need-add-end
 add-end c = search needs
 
-sub-hash : tie.Need-sub-hash
-sub-hash c = search needs
+sub-hash-from : tie.Need-sub-hash-from
+sub-hash-from c = search needs
 
-part-hash-start : tie.Need-part-hash-start
-part-hash-start c = search needs
+part-hash-from-start : tie.Need-part-hash-from-start
+part-hash-from-start c = search needs
 
-part-hash-end : tie.Need-part-hash-end
-part-hash-end c = search needs
+part-hash-from-end : tie.Need-part-hash-from-end
+part-hash-from-end c = search needs
 
-hash-requires : tie.Need-hash-requires
-hash-requires c κs = search needs
+hash-from-requires : tie.Need-hash-from-requires
+hash-from-requires c κs = search needs
 
 slice-aggregate-equal : tie.Need-slice-aggregate-equal
 slice-aggregate-equal c = search needs
@@ -46,18 +46,18 @@ returns : tie.Need-returns
 returns c =
     let a = c .before .before .before .before .before .before .args in
     let s : List ℕ = a .s .now in
-    let h = c .before .before .before .hash .ensures in
-    c .equal .ensures ∙ ap (λ (l : List ℕ). eqbList l (take 32 s)) (h ∙ ap hash (part-lent s 32 (40 + a .n) (8 + a .n) (omega arith)))
+    let h = c .before .before .before .hash-from .ensures in
+    c .equal .ensures ∙ ap (λ (l : List ℕ). eqbList l (take 32 s)) (h ∙ ap (hashFrom (a .start)) (part-lent s 32 (40 + a .n) (8 + a .n) (omega arith)))
 
 pub hash-matches-spec : {M : Type 1} → statement M
 hash-matches-spec =
     tie.close
     (tie.spec
     add-end
-    sub-hash
-    part-hash-start
-    part-hash-end
-    hash-requires
+    sub-hash-from
+    part-hash-from-start
+    part-hash-from-end
+    hash-from-requires
     slice-aggregate-equal
     sub-equal
     part-equal-start

@@ -1,9 +1,10 @@
--- `record_read::parse_record_held`. As `parse_record`, with the hash's fact in the place of its test.
+-- `record_read::parse_record_held`. As `parse_from`, and the stated hash is the one that is stated.
 -- Assumes nothing.
 use mathlib.Core.Path.{sym, _∙_}
 use native.Mathlib.Omega.{arith}
 use borrow.Author.Needs.{needs}
-use Rattle.blake3.specs.Spec.{hash}
+use mathlib.Core.Path.{refl}
+use Rattle.format.specs.RefusalLaws.{statedHash}
 use Rattle.record_read.specs.DecodeLaws.{parse-held}
 use Rattle.record_read.proofs.parse_record_held.Statement.{statement}
 use Rattle.record_read.proofs.parse_record_held.Tie as tie
@@ -29,14 +30,14 @@ decode-payload-requires c κs =
 returns : tie.Need-returns
 returns c =
     let f = rw (c .before .before .f .given .1) at (c .before .before .before .before .frame .ensures) in
-    c .refusal .ensures ∙ sym (f hash)
+    c .refusal .ensures ∙ sym (f (statedHash (c .before .before .before .before .before .before .args .s .now)))
 
 returns-2 : tie.Need-returns-2
 returns-2 c =
     let b = c .before .before .before .before .before .before in
     let x = c .before .before .f2 .given in
     let f = rw (x .1) at (c .before .before .before .before .frame .ensures) in
-    c .decode-payload .ensures ∙ sym (parse-held hash (b .args .s .now) (x .0 .0) f (b .pre))
+    c .decode-payload .ensures ∙ sym (parse-held (statedHash (b .args .s .now)) (b .args .s .now) (x .0 .0) f (λ w. refl))
 
 pub parse-record-held-spec : {M : Type 1} → statement M
 parse-record-held-spec =

@@ -1,161 +1,35 @@
--- `record_write::encode_record`. The tests one after another, each way out by its law; then the record in its parts.
+-- `record_write::encode_record`. The key is judged; then the record is written, by the hash from the mode's start.
 -- Assumes nothing.
 use mathlib.Core.Path.{_≡_, sym, ap, _∙_}
-use Prim.Native.Nat.{ℕ, _+_, _-_, _*_}
-use native.Mathlib.Omega.{arith}
-use lib.ListN.{length}
+use mathlib.Core.List.{List}
+use Prim.Native.Nat.{ℕ}
 use borrow.Author.Needs.{needs}
-use Rattle.blake3.specs.Spec.{hash}
-use Rattle.blake3.specs.Equations.{length-hash}
-use Rattle.cell_nursery.specs.Calls.{lengthWidth}
-use Rattle.delta_items.specs.Walk.{deltaIn}
-use Rattle.delta_items.specs.WalkLaws.{removes-at, removes-past, fit-inserts, heads-fit, cells-left}
-use Rattle.format.specs.Payload.{payloadBytes}
-use Rattle.format.specs.Record.{hashed}
-use Rattle.record_write.specs.EncodeLaws.{few-inserts, few-removes, few-bytes, length-hashed, encode-broken, encode-long, encode-full, encode-taken, record-laid}
+use Rattle.blake3.specs.Mode.{modeOf}
+use Rattle.blake3.specs.ModeLaws.{started}
+use Rattle.format.specs.Calls.{encodedOut, encodeCall}
+use Rattle.format.specs.ModeLaws.{encode-bad, encode-good}
 use Rattle.record_write.proofs.encode_record.Statement.{statement}
 use Rattle.record_write.proofs.encode_record.Tie as tie
 
-removes-at-requires : tie.Need-removes-at-requires
-removes-at-requires c κs = search needs
-
-enum-known-end : tie.Need-enum-known-end
-enum-known-end c = search needs
-
-enum-told : tie.Need-enum-told
-enum-told c = search needs
-
-refusal-requires : tie.Need-refusal-requires
-refusal-requires c κs = search needs
-
 returns : tie.Need-returns
+unfolding encodedOut
 returns c =
     let a = c .before .before .before .before .before .before .args in
-    let w = lengthWidth (a .wide) in
-    let past = removes-past w (a .inserts) (a .removes) (a .items .now) (sym (c .before .before .before .removes-at .ensures) ∙ c .before .enum-told .given .1) in
-    rw (c .refusal .ensures) (sym (encode-broken hash length-hash (a .id) (a .wide) (a .inserts) (a .removes) (a .items .now) (a .out .now) past))
+    rw (c .refusal .ensures) (sym (encode-bad (modeOf (a .keyed) (a .key .now)) (a .id) (a .wide) (a .inserts) (a .removes) (a .items .now) (a .out .now) (sym (c .before .before .bad-key .ensures) ∙ c .before .if1 .taken)))
 
-any-too-long-requires : tie.Need-any-too-long-requires
-any-too-long-requires c κs =
-    let a = c .before .before .before .before .before .before .args in
-    let w = lengthWidth (a .wide) in
-    let end = c .before .end .given in
-    let there = removes-at w (a .inserts) (a .removes) (a .items .now) (end .0 .0) (sym (c .before .before .before .removes-at .ensures) ∙ end .1) in
-    there .0
-
-refusal-requires-2 : tie.Need-refusal-requires-2
-refusal-requires-2 c κs = search needs
+start-of-requires : tie.Need-start-of-requires
+start-of-requires c κs = sym (c .before .bad-key .ensures) ∙ c .if1 .left
 
 returns-2 : tie.Need-returns-2
 returns-2 c =
-    let a = c .before .before .before .before .before .before .before .before .before .args in
-    let w = lengthWidth (a .wide) in
-    let end = c .before .before .before .before .end .given in
-    let there = removes-at w (a .inserts) (a .removes) (a .items .now) (end .0 .0) (sym (c .before .before .before .before .before .before .removes-at .ensures) ∙ end .1) in
-    rw (c .refusal2 .ensures) (sym (encode-long hash length-hash (a .id) (a .wide) (a .inserts) (a .removes) (a .items .now) (a .out .now) (there .0) (sym (c .before .before .any-too-long .ensures) ∙ c .before .if1 .taken)))
-
-cell-bytes-requires : tie.Need-cell-bytes-requires
-cell-bytes-requires c κs =
-    let a = c .before .before .before .before .before .before .before .before .args in
-    let w = lengthWidth (a .wide) in
-    let end = c .before .before .before .end .given in
-    let there = removes-at w (a .inserts) (a .removes) (a .items .now) (end .0 .0) (sym (c .before .before .before .before .before .removes-at .ensures) ∙ end .1) in
-    rw (there .1) (heads-fit w (a .inserts) (a .items .now) (fit-inserts w (a .inserts) (a .removes) (a .items .now) (there .0)))
-
-metadata-len-requires : tie.Need-metadata-len-requires
-metadata-len-requires c κs =
-    let a = c .before .before .before .before .before .before .before .before .before .args in
-    let w = lengthWidth (a .wide) in
-    let end = c .before .before .before .before .end .given in
-    let there = removes-at w (a .inserts) (a .removes) (a .items .now) (end .0 .0) (sym (c .before .before .before .before .before .before .removes-at .ensures) ∙ end .1) in
-    let short = sym (c .before .before .any-too-long .ensures) ∙ c .before .if1 .left in
-    (few-inserts w (a .inserts) (a .removes) (a .items .now) short, few-removes w (a .inserts) (a .removes) (a .items .now) short)
-
-add-payload : tie.Need-add-payload
-add-payload c =
-    let a = c .before .before .before .before .before .before .before .before .before .before .args in
-    let w = lengthWidth (a .wide) in
-    let end = c .before .before .before .before .before .end .given in
-    let there = removes-at w (a .inserts) (a .removes) (a .items .now) (end .0 .0) (sym (c .before .before .before .before .before .before .before .removes-at .ensures) ∙ end .1) in
-    let short = sym (c .before .before .before .any-too-long .ensures) ∙ c .before .before .if1 .left in
-    let cells = c .before .cell-bytes .ensures ∙ ap (λ (e : ℕ). e - a .inserts * (44 + w)) (there .1) ∙ cells-left w (a .inserts) (a .items .now) (fit-inserts w (a .inserts) (a .removes) (a .items .now) (there .0)) in
-    omega (arith, c .metadata-len .ensures, cells, few-inserts w (a .inserts) (a .removes) (a .items .now) short, few-removes w (a .inserts) (a .removes) (a .items .now) short, few-bytes w (a .inserts) (a .removes) (a .items .now) short)
-
-add-len : tie.Need-add-len
-add-len c =
-    let a = c .before .before .before .before .before .before .before .before .before .before .args in
-    let w = lengthWidth (a .wide) in
-    let end = c .before .before .before .before .before .end .given in
-    let there = removes-at w (a .inserts) (a .removes) (a .items .now) (end .0 .0) (sym (c .before .before .before .before .before .before .before .removes-at .ensures) ∙ end .1) in
-    let short = sym (c .before .before .before .any-too-long .ensures) ∙ c .before .before .if1 .left in
-    let cells = c .before .cell-bytes .ensures ∙ ap (λ (e : ℕ). e - a .inserts * (44 + w)) (there .1) ∙ cells-left w (a .inserts) (a .items .now) (fit-inserts w (a .inserts) (a .removes) (a .items .now) (there .0)) in
-    omega (arith, c .metadata-len .ensures, cells, few-inserts w (a .inserts) (a .removes) (a .items .now) short, few-removes w (a .inserts) (a .removes) (a .items .now) short, few-bytes w (a .inserts) (a .removes) (a .items .now) short)
-
-refusal-requires-3 : tie.Need-refusal-requires-3
-refusal-requires-3 c κs = search needs
-
-returns-3 : tie.Need-returns-3
-returns-3 c =
-    let a = c .before .before .before .before .before .before .before .before .before .before .before .before .args in
-    let w = lengthWidth (a .wide) in
-    let end = c .before .before .before .before .before .before .before .end .given in
-    let there = removes-at w (a .inserts) (a .removes) (a .items .now) (end .0 .0) (sym (c .before .before .before .before .before .before .before .before .before .removes-at .ensures) ∙ end .1) in
-    let short = sym (c .before .before .before .before .before .any-too-long .ensures) ∙ c .before .before .before .before .if1 .left in
-    let cells = c .before .before .before .cell-bytes .ensures ∙ ap (λ (e : ℕ). e - a .inserts * (44 + w)) (there .1) ∙ cells-left w (a .inserts) (a .items .now) (fit-inserts w (a .inserts) (a .removes) (a .items .now) (there .0)) in
-    rw (c .refusal3 .ensures) (sym (encode-full hash length-hash (a .id) (a .wide) (a .inserts) (a .removes) (a .items .now) (a .out .now) (there .0) short (omega (arith, c .before .before .metadata-len .ensures, cells))))
-
-write-body-requires : tie.Need-write-body-requires
-write-body-requires c κs =
-    let a = c .before .before .before .before .before .before .before .before .before .before .before .before .args in
-    let w = lengthWidth (a .wide) in
-    let end = c .before .before .before .before .before .before .before .end .given in
-    let there = removes-at w (a .inserts) (a .removes) (a .items .now) (end .0 .0) (sym (c .before .before .before .before .before .before .before .before .before .removes-at .ensures) ∙ end .1) in
-    let short = sym (c .before .before .before .before .before .any-too-long .ensures) ∙ c .before .before .before .before .if1 .left in
-    let cells = c .before .before .before .cell-bytes .ensures ∙ ap (λ (e : ℕ). e - a .inserts * (44 + w)) (there .1) ∙ cells-left w (a .inserts) (a .items .now) (fit-inserts w (a .inserts) (a .removes) (a .items .now) (there .0)) in
-    let m = c .before .before .metadata-len .ensures in
-    record { fit = there .0; short = short; place = there .1; stated = omega (arith, m, cells); fits = omega (arith, m, cells) }
-
-write-hash-requires : tie.Need-write-hash-requires
-write-hash-requires c κs = search needs
-
-same-length : tie.Need-same-length
-same-length c = search needs
-
-returns-4 : tie.Need-returns-4
-returns-4 c =
-    let a = c .before .before .before .before .before .before .before .before .before .before .before .before .before .before .before .before .before .before .before .args in
-    let w = lengthWidth (a .wide) in
-    let end = c .before .before .before .before .before .before .before .before .before .before .before .before .before .before .end .given in
-    let there = removes-at w (a .inserts) (a .removes) (a .items .now) (end .0 .0) (sym (c .before .before .before .before .before .before .before .before .before .before .before .before .before .before .before .before .removes-at .ensures) ∙ end .1) in
-    let short = sym (c .before .before .before .before .before .before .before .before .before .before .before .before .any-too-long .ensures) ∙ c .before .before .before .before .before .before .before .before .before .before .before .if1 .left in
-    let cells = c .before .before .before .before .before .before .before .before .before .before .cell-bytes .ensures ∙ ap (λ (e : ℕ). e - a .inserts * (44 + w)) (there .1) ∙ cells-left w (a .inserts) (a .items .now) (fit-inserts w (a .inserts) (a .removes) (a .items .now) (there .0)) in
-    let m = c .before .before .before .before .before .before .before .before .before .metadata-len in
-    let r = c .before .before .before .before .before .before .before .before .before .before .cell-bytes in
-    let d = deltaIn w (a .inserts) (a .removes) (a .items .now) in
-    let k = 40 + (m .result + r .result) - 32 in
-    let l : length (hashed (payloadBytes (a .id) d)) ≡ k = length-hashed (a .id) w (a .inserts) (a .removes) (a .items .now) (there .0) hash length-hash ∙ omega (arith, m .ensures, cells) in
-    let o = c .before .before .write-hash .ensures ∙ record-laid hash length-hash (a .id) d (a .out .now) _ k l (omega (arith, m .ensures)) (c .before .before .before .before .before .before .write-body .ensures) in
-    rw (o, m .ensures) (sym (encode-taken hash length-hash (a .id) (a .wide) (a .inserts) (a .removes) (a .items .now) (a .out .now) (there .0) short (r .result) cells (omega (arith, m .ensures, cells))))
+    let f = c .before .before .before .before .before in
+    let a = f .before .before .before .before .before .args in
+    let m = modeOf (a .keyed) (a .key .now) in
+    let good = sym (f .before .bad-key .ensures) ∙ f .if1 .left in
+    c .before .before .encode-from .ensures
+    ∙ ap (λ (h : List ℕ → List ℕ). encodeCall h (a .id) (a .wide) (a .inserts) (a .removes) (a .items .now) (a .out .now)) (started m (c .before .before .before .before .start-of .ensures))
+    ∙ sym (encode-good m (a .id) (a .wide) (a .inserts) (a .removes) (a .items .now) (a .out .now) good)
 
 pub encode-record-spec : {M : Type 1} → statement M
 encode-record-spec =
-    tie.close
-    (tie.spec
-    removes-at-requires
-    enum-known-end
-    enum-told
-    refusal-requires
-    returns
-    any-too-long-requires
-    refusal-requires-2
-    returns-2
-    cell-bytes-requires
-    metadata-len-requires
-    add-payload
-    add-len
-    refusal-requires-3
-    returns-3
-    write-body-requires
-    write-hash-requires
-    same-length
-    returns-4)
+    tie.close (tie.spec (λ c κs. search needs) (λ c κs. search needs) returns start-of-requires (λ c κs. search needs) (λ c. search needs) returns-2)

@@ -8,17 +8,17 @@ use Rattle.record_write.specs.Laid.{laidAt}
 use Rattle.record_write.proofs.write_hash.Statement.{statement}
 use Rattle.record_write.proofs.write_hash.Tie as tie
 
-sub-hash : tie.Need-sub-hash
-sub-hash c = search needs
+sub-hash-from : tie.Need-sub-hash-from
+sub-hash-from c = search needs
 
-part-hash-start : tie.Need-part-hash-start
-part-hash-start c = search needs
+part-hash-from-start : tie.Need-part-hash-from-start
+part-hash-from-start c = search needs
 
-part-hash-end : tie.Need-part-hash-end
-part-hash-end c = search needs
+part-hash-from-end : tie.Need-part-hash-from-end
+part-hash-from-end c = search needs
 
-hash-requires : tie.Need-hash-requires
-hash-requires c κs = search needs
+hash-from-requires : tie.Need-hash-from-requires
+hash-from-requires c κs = search needs
 
 slice-aggregate-copy-at : tie.Need-slice-aggregate-copy-at
 slice-aggregate-copy-at c = search needs
@@ -32,16 +32,16 @@ same-length c = search needs
 returns : tie.Need-returns
 returns c =
     let out : List ℕ = c .before .before .before .before .before .before .before .before .before .args .out .now in
-    c .before .before .copy-at .ensures ∙ ap (λ (l : List ℕ). laidAt out 0 l) (c .before .before .before .before .before .hash .ensures)
+    c .before .before .copy-at .ensures ∙ ap (λ (l : List ℕ). laidAt out 0 l) (c .before .before .before .before .before .hash-from .ensures)
 
 pub write-hash-spec : {M : Type 1} → statement M
 write-hash-spec =
     tie.close
     (tie.spec
-    sub-hash
-    part-hash-start
-    part-hash-end
-    hash-requires
+    sub-hash-from
+    part-hash-from-start
+    part-hash-from-end
+    hash-from-requires
     slice-aggregate-copy-at
     copy-at-requires
     same-length
