@@ -20,7 +20,7 @@ use Rattle.base.specs.MaybeLaws.{Gives, gives}
 use Rattle.base.specs.SpellLaws.{Bytes}
 use Rattle.node_box.specs.Box.{standardSettings, Box, Call, allocate, batch, delta, made, step, run}
 use Rattle.node_box.specs.Demand.{start, end}
-use Rattle.node_box.specs.Order.{setting-lines}
+use Rattle.node_box.specs.Order.{setting-lines, mode-lines}
 use Rattle.demand3.specs.Holding.{Fixed, Holding, holding-step, holding}
 use Rattle.demand3.specs.Refusals.{numbersOf, refusals}
 use Rattle.demand3.specs.DrainRoom.{drain-fits}
@@ -88,7 +88,7 @@ made-holds : (k e w c : ℕ) → Holding (record { settings = standardSettings; 
 unfolding end start run all
 made-holds k e w c =
     rw (length-replicate {A = ℕ} k 0, length-replicate {A = ℕ} e 0, length-replicate {A = ℕ} w 0, length-replicate {A = ℕ} c 0) at
-    (holding (record { settings = standardSettings; next = 0; counts = zeros k; entries = zeros e; waiting = zeros w; cells = zeros c; calls = [] }) (record { settings = setting-lines .standard-ranged; next = omega arith; calls = refl }))
+    (holding (record { settings = standardSettings; mode = record { underKey = false; key = [] }; next = 0; counts = zeros k; entries = zeros e; waiting = zeros w; cells = zeros c; calls = [] }) (record { settings = setting-lines .standard-ranged; mode = mode-lines .key-none []; next = omega arith; calls = refl }))
 
 run-holds : Holding runFixed runBox
 unfolding runBox

@@ -6,8 +6,8 @@ use mathlib.Core.List.{List, [], map}
 use Prim.Native.Nat.{ℕ, _≤_}
 use lib.ListN.{length, take, length-map}
 use Rattle.base.specs.Logic.{flat}
-use Rattle.blake3.specs.Spec.{hash}
-use Rattle.blake3.specs.Equations.{length-hash}
+use Rattle.blake3.specs.Mode.{hashBy}
+use Rattle.blake3.specs.ModeLaws.{length-hashBy}
 use Rattle.counters.specs.Counts as counts
 use Rattle.counters.specs.Calls as counters-calls
 use Rattle.snapshot.specs.Calls.{deserializeCall}
@@ -20,8 +20,9 @@ use Rattle.cell_nursery.specs.Drain.{listingBytes}
 use Rattle.cell_nursery.specs.Layout.{recordOf, roomOf, delayInRange}
 use Rattle.cell_nursery.specs.Calls.{laid}
 use Rattle.cell_nursery.specs.EntryLaws.{well-empty, room-empty}
-use Rattle.journal.specs.Journal.{damaged, readJournal, ReadIn, readOut, readCall}
+use Rattle.journal.specs.Journal.{damaged, readJournal, ReadIn, readOut, readUnder}
 use Rattle.journal.specs.ReadLaws.{read-undamaged}
+use Rattle.journal.specs.ModeLaws.{read-good}
 use Rattle.cell_nursery.specs.WaitLaws.{Waits, waits-empty}
 use Rattle.journal_laws.specs.ReadLaws.{endOf, Applies, applies-whole, applied-waits, applied-well, applied-fits, journal-cut, cut-undamaged}
 use Rattle.node_box.specs.Box.{Box, snapshotOf, listingOf}
@@ -34,18 +35,22 @@ use Rattle.demand3.specs.Outputs.{snapshot-is, listing-is}
 use Rattle.demand3.specs.Waiting.{every-waits}
 use Rattle.demand3.specs.Trace.{Step, logged, Traced, traced, wholeSteps, stepBytes, afterSteps, bytes-logged, whole-logged, listed-whole, listing-last}
 
-module _ (a : History) (ok : Typed a) (k : ℕ) (short : k ≤ length (journalOf hash (start a) (a .calls))) where
+module _ (a : History) (ok : Typed a) (k : ℕ) (short : k ≤ length (journalOf (a .mode) (start a) (a .calls))) where
+  -- the hash of its records
+  abbrev hash : List ℕ → List ℕ
+  hash = hashBy (a .mode)
+
   delay-ranged : delayInRange (a .settings .delay) ≡ true
   delay-ranged = holds-start a ok .nursery .ranged
 
   -- the journal's deltas, and those whose records are whole
-  trace : Traced hash (fixedOf a) empty (records hash (start a) (a .calls))
-  trace = traced hash (a .calls) (ok .calls) (holds-start a ok) refl
+  trace : Traced hash (fixedOf a) empty (records (a .mode) (start a) (a .calls))
+  trace = traced (a .mode) (ok .mode) (a .calls) (ok .calls) (holds-start a ok) refl
 
   applied-steps : List Step
   applied-steps = wholeSteps hash k (trace .steps)
 
-  journal-is : journalOf hash (start a) (a .calls) ≡ stepBytes hash (trace .steps)
+  journal-is : journalOf (a .mode) (start a) (a .calls) ≡ stepBytes hash (trace .steps)
   unfolding journalOf
   journal-is = ap (λ (rs : List Logged). flat (λ r. r .bytes) rs) (trace .same) ∙ bytes-logged hash (trace .steps)
 
@@ -65,10 +70,10 @@ module _ (a : History) (ok : Typed a) (k : ℕ) (short : k ≤ length (journalOf
   applies = applies-whole hash (λ s. s .id) (λ s. s .change) room (trace .applies) k
 
   -- none of the records is damaged, wherever the journal is cut
-  pub undamaged : damaged hash (take k (journalOf hash (start a) (a .calls))) ≡ false
+  pub undamaged : damaged hash (take k (journalOf (a .mode) (start a) (a .calls))) ≡ false
   undamaged =
       rw journal-is
-      (cut-undamaged hash (λ s. s .id) (λ s. s .change) length-hash room (trace .steps) (trace .applies) k (rw journal-is at short))
+      (cut-undamaged hash (λ s. s .id) (λ s. s .change) (length-hashBy (a .mode)) room (trace .steps) (trace .applies) k (rw journal-is at short))
 
   -- the nursery after them, in which every entry waits
   state : entries.State
@@ -85,18 +90,20 @@ module _ (a : History) (ok : Typed a) (k : ℕ) (short : k ≤ length (journalOf
     unfolding roomOf
     room-same = rw (le, lw, lc)
 
-    reading : readJournal hash (roomOf es ws cs) (take k (journalOf hash (start a) (a .calls)))
+    reading : readJournal hash (roomOf es ws cs) (take k (journalOf (a .mode) (start a) (a .calls)))
         ≡ record { state = state; records = length applied-steps; place = length (stepBytes hash applied-steps); ended = endOf (length (stepBytes hash applied-steps)) k }
     unfolding state applied-steps
     reading =
         rw (room-same, journal-is)
-        (journal-cut hash (λ s. s .id) (λ s. s .change) length-hash room (trace .steps) (trace .applies) k (rw journal-is at short))
+        (journal-cut hash (λ s. s .id) (λ s. s .change) (length-hashBy (a .mode)) room (trace .steps) (trace .applies) k (rw journal-is at short))
 
     -- so the reading is taken
-    read-is : readCall hash (a .settings .delay) (take k (journalOf hash (start a) (a .calls))) es ws cs
+    read-is : readUnder (a .mode) (a .settings .delay) (take k (journalOf (a .mode) (start a) (a .calls))) es ws cs
         ≡ readOut (a .settings .delay) es ws cs
         (record { state = state; records = length applied-steps; place = length (stepBytes hash applied-steps); ended = endOf (length (stepBytes hash applied-steps)) k })
-    read-is = rw (← reading) (read-undamaged hash (a .settings .delay) (take k (journalOf hash (start a) (a .calls))) es ws cs delay-ranged undamaged)
+    read-is =
+        read-good (a .mode) (a .settings .delay) (take k (journalOf (a .mode) (start a) (a .calls))) es ws cs (ok .mode)
+        ∙ rw (← reading) (read-undamaged hash (a .settings .delay) (take k (journalOf (a .mode) (start a) (a .calls))) es ws cs delay-ranged undamaged)
 
     nursery-read : ChangedHeld (a .settings .delay) (length es) (length ws) (length cs) (laid (a .settings .delay) es ws cs state) state
     unfolding state

@@ -14,6 +14,7 @@ use borrow.Author.Tests.{le-ltb, eqb-true}
 use Rattle.base.specs.Logic.{pick, all, fold, flat, keep, zeros, overlay}
 use Rattle.base.specs.Laws.{and-left, and-right}
 use Rattle.base.specs.ListLaws.{fold-reads}
+use Rattle.blake3.specs.Mode.{Mode, badKey, hashBy}
 use Rattle.cell_nursery.specs.Entries as entries
 use Rattle.cell_nursery.specs.Entries.{Entry, putEntry, insert, remove}
 use Rattle.cell_nursery.specs.Items.{Delta, deltaOf}
@@ -22,7 +23,7 @@ use Rattle.cell_nursery.specs.Drain.{drained, listingBytes}
 use Rattle.cell_nursery.specs.Calls.{lengthWidth}
 use Rattle.counters.specs.Counts as counts
 use Rattle.format.specs.Record.{recordBytes, encode}
-use Rattle.format.specs.Calls.{encodedOut, encodeCall}
+use Rattle.format.specs.Calls.{encodedOut, encodeCall, encodeUnder}
 use Rattle.journal_laws.specs.DeltaLaws.{Accepted, Read, delta-read}
 use Rattle.journal_laws.specs.ReadLaws.{accepted-again, bytesOf, wholeIn, applied-all, Applies, done, more}
 use Rattle.node_box.specs.Box.{Box, Call, allocate, batch, batchRecords, delta, drain, get, shrink, adjust, measure, serialize, lookup, locate, listing, step, accepted, listingOf}
@@ -64,20 +65,12 @@ idle : (inserts removes : ℕ) (d : Delta) (s : entries.State) → Read inserts 
 unfolding stateAfter fold
 idle inserts removes d s r z = rw (no-items (d .inserts) (omega (arith, r .number-inserts)), no-items (d .removes) (omega (arith, r .number-removes)))
 
+-- ---- the records of such deltas, under any hash
 module _ (hash : List ℕ → List ℕ) where
   -- its record, as the journal has it
   abbrev pub logged : Step → Logged
   logged s = record { bytes = recordBytes hash (s .id) (s .change); after = s .after }
 
-  -- ---- the record of an accepted delta
-  record-is : (id : ℕ) (wide : Bool) (inserts removes : ℕ) (items : List ℕ) (d : Delta) → deltaOf (lengthWidth wide) inserts removes items ≡ some d → tooLong d ≡ false
-      → encoded hash id wide inserts removes items ≡ recordBytes hash id d
-  unfolding encoded encodeCall encode encodedOut overlay
-  record-is id wide inserts removes items d e t =
-      let bs = recordBytes hash id d in
-      rw (e, t, length-replicate {A = ℕ} (length bs) 0, le-ltb (length bs) (length bs) (omega arith)) (take-at bs (drop (length bs) (zeros (length bs))) (length bs) refl)
-
-  -- ---- a box's journal, read by a nursery that has the box's entries, whichever of them wait
   -- the listing after each delta is that of the entries that the nursery has then
   pub data Listed : entries.State → List Step → Type 0 where
     listed-none : {u : entries.State} → Listed u []
@@ -88,94 +81,6 @@ module _ (hash : List ℕ → List ℕ) where
     pub same : rs ≡ map logged steps
     pub applies : Applies hash (λ s. s .id) (λ s. s .change) (roomFor (z .entries) (z .waiting) (z .cells)) u steps
     pub listed : Listed u steps
-
-  -- the nursery that reads has the box's entries
-  abbrev pub Reads : entries.State → entries.State → Type 0
-  Reads n u = u .entries ≡ n .entries
-
-  module _ {z : Fixed} {b : Box} {c : counts.State} {n u : entries.State} (h : Holds z b c n) (r : Reads n u) where
-    -- the record of an accepted delta, and those after it
-    traced-delta : (id : ℕ) (wide : Bool) (inserts removes : ℕ) (items : List ℕ) (rs : List Logged)
-        → let x : Call = delta id wide inserts removes items in
-        typed x ≡ true → accepted (step b x .0) ≡ true → ((v : entries.State) → Reads (nurseryAfter (z .settings .delay) x n) v → Traced z v rs)
-        → Traced z u (loggedOf hash x (listingOf (step b x .1)) ++ rs)
-    unfolding loggedOf nurseryAfter step
-    traced-delta id wide inserts removes items rs t e rest = go (eqb (inserts + removes) 0) refl
-      where
-        x : Call
-        x = delta id wide inserts removes items
-
-        args : DeltaTyped id items
-        args = delta-typed id wide inserts removes items t
-
-        taken : DeltaTaken (h .nursery) wide inserts removes items
-        taken = delta-taken (h .nursery) wide inserts removes items (answer-taken _ e)
-
-        change : Delta
-        change = taken .change
-
-        v : entries.State
-        v = stateAfter change u
-
-        next : nurseryAfter (z .settings .delay) x n ≡ stateAfter change n
-        next = rw (taken .spelled)
-
-        again : Accepted (roomFor (z .entries) (z .waiting) (z .cells)) u change
-        again = accepted-again (roomFor (z .entries) (z .waiting) (z .cells)) n u change r (taken .accepted)
-
-        same-after : v .entries ≡ nurseryAfter (z .settings .delay) x n .entries
-        same-after = entries-after change n u r ∙ sym (ap (λ (s : entries.State). s .entries) next)
-
-        listing-after : listingOf (step b x .1) ≡ listingBytes (v .entries)
-        listing-after = listing-is (step b x .1) (holds-taken h x t e .nursery) ∙ ap listingBytes (sym same-after)
-
-        rest-after : Traced z v rs
-        rest-after = rest v same-after
-
-        go : (none : Bool) → eqb (inserts + removes) 0 ≡ none
-            → Traced z u (pick none [] (record { bytes = encoded hash id wide inserts removes items; after = listingOf (step b x .1) } ∷ []) ++ rs)
-        go true q =
-            let stays = idle inserts removes change n (delta-read (lengthWidth wide) inserts removes items change (args .bytes) (taken .spelled)) (eqb-true (inserts + removes) 0 q) in
-            rest u (r ∙ sym (ap (λ (s : entries.State). s .entries) (next ∙ stays)))
-        go false q =
-            record {
-              steps = record { id = id; change = change; after = listingOf (step b x .1) } ∷ rest-after .steps;
-              same = rw (record-is id wide inserts removes items change (taken .spelled) (taken .accepted .short), ← rest-after .same);
-              applies = more (delta-carried (h .nursery) wide inserts removes items id (args .small-id) (args .bytes) taken) again (rest-after .applies);
-              listed = listed-more listing-after (rest-after .listed);
-            }
-
-    -- the records of an accepted call and of the calls after it
-    traced-call : (x : Call) (rs : List Logged) → typed x ≡ true → accepted (step b x .0) ≡ true
-        → ((v : entries.State) → Reads (nurseryAfter (z .settings .delay) x n) v → Traced z v rs) → Traced z u (loggedOf hash x (listingOf (step b x .1)) ++ rs)
-    unfolding loggedOf nurseryAfter drained
-    traced-call allocate rs t e rest = rest u r
-    traced-call (batch words) rs t e rest = rest u r
-    traced-call (batchRecords ts) rs t e rest = rest u r
-    traced-call (delta id wide inserts removes items) rs t e rest = traced-delta id wide inserts removes items rs t e rest
-    traced-call (drain round out) rs t e rest = rest u r
-    traced-call (get idx) rs t e rest = rest u r
-    traced-call (shrink saved) rs t e rest = rest u r
-    traced-call (adjust saved) rs t e rest = rest u r
-    traced-call measure rs t e rest = rest u r
-    traced-call (serialize out) rs t e rest = rest u r
-    traced-call (lookup key) rs t e rest = rest u r
-    traced-call (locate key) rs t e rest = rest u r
-    traced-call (listing out) rs t e rest = rest u r
-
-  pub traced : {z : Fixed} {b : Box} {c : counts.State} {n u : entries.State} (xs : List Call) → all typed xs ≡ true → Holds z b c n → Reads n u → Traced z u (records hash b xs)
-  unfolding records all
-  traced [] t h r = record { steps = []; same = refl; applies = done; listed = listed-none }
-  traced {z} {b} {c} {n} {u} (x ∷ xs) t h r =
-      go (accepted (step b x .0)) refl (λ c′ n′ v g q. traced xs (and-right (typed x) (all typed xs) t) g q)
-    where
-      go : (ok : Bool) → accepted (step b x .0) ≡ ok
-          → ((c′ : counts.State) (n′ v : entries.State) → Holds z (step b x .1) c′ n′ → Reads n′ v → Traced z v (records hash (step b x .1) xs))
-          → Traced z u (pick ok (loggedOf hash x (listingOf (step b x .1))) [] ++ records hash (step b x .1) xs)
-      go true e rest =
-          traced-call h r x (records hash (step b x .1) xs) (and-left (typed x) (all typed xs) t) e
-          (λ v q. rest (countersAfter (z .settings .shrink) x c) (nurseryAfter (z .settings .delay) x n) v (holds-taken h x (and-left (typed x) (all typed xs) t) e) q)
-      go false e rest = rest c n u (rw (refused-same b (h .nursery) x e) h) r
 
   -- ---- the whole records, and the listing after the last of them
   abbrev pub wholeSteps : ℕ → List Step → List Step
@@ -222,3 +127,101 @@ module _ (hash : List ℕ → List ℕ) where
   unfolding listingAfter applied-all fold
   listing-last listed-none = refl
   listing-last (listed-more {ts = ts} e l) = ap (λ (bs : List ℕ). listingAfter bs (map logged ts)) e ∙ listing-last l
+
+-- ---- a box's journal in a mode whose key isn't bad, read by a nursery that has the box's entries, whichever of them wait
+-- the nursery that reads has the box's entries
+abbrev pub Reads : entries.State → entries.State → Type 0
+Reads n u = u .entries ≡ n .entries
+
+module _ (m : Mode) (good : badKey m ≡ false) where
+  -- the record of an accepted delta
+  record-is : (id : ℕ) (wide : Bool) (inserts removes : ℕ) (items : List ℕ) (d : Delta) → deltaOf (lengthWidth wide) inserts removes items ≡ some d → tooLong d ≡ false
+      → encoded m id wide inserts removes items ≡ recordBytes (hashBy m) id d
+  unfolding encoded encodeUnder encodeCall encode encodedOut overlay
+  record-is id wide inserts removes items d e t =
+      let bs = recordBytes (hashBy m) id d in
+      rw (good, e, t, length-replicate {A = ℕ} (length bs) 0, le-ltb (length bs) (length bs) (omega arith)) (take-at bs (drop (length bs) (zeros (length bs))) (length bs) refl)
+
+  module _ {z : Fixed} {b : Box} {c : counts.State} {n u : entries.State} (h : Holds z b c n) (r : Reads n u) where
+    -- the record of an accepted delta, and those after it
+    traced-delta : (id : ℕ) (wide : Bool) (inserts removes : ℕ) (items : List ℕ) (rs : List Logged)
+        → let x : Call = delta id wide inserts removes items in
+        typed x ≡ true → accepted (step b x .0) ≡ true → ((v : entries.State) → Reads (nurseryAfter (z .settings .delay) x n) v → Traced (hashBy m) z v rs)
+        → Traced (hashBy m) z u (loggedOf m x (listingOf (step b x .1)) ++ rs)
+    unfolding loggedOf nurseryAfter step
+    traced-delta id wide inserts removes items rs t e rest = go (eqb (inserts + removes) 0) refl
+      where
+        x : Call
+        x = delta id wide inserts removes items
+
+        args : DeltaTyped id items
+        args = delta-typed id wide inserts removes items t
+
+        taken : DeltaTaken (h .nursery) wide inserts removes items
+        taken = delta-taken (h .nursery) wide inserts removes items (answer-taken _ e)
+
+        change : Delta
+        change = taken .change
+
+        v : entries.State
+        v = stateAfter change u
+
+        next : nurseryAfter (z .settings .delay) x n ≡ stateAfter change n
+        next = rw (taken .spelled)
+
+        again : Accepted (roomFor (z .entries) (z .waiting) (z .cells)) u change
+        again = accepted-again (roomFor (z .entries) (z .waiting) (z .cells)) n u change r (taken .accepted)
+
+        same-after : v .entries ≡ nurseryAfter (z .settings .delay) x n .entries
+        same-after = entries-after change n u r ∙ sym (ap (λ (s : entries.State). s .entries) next)
+
+        listing-after : listingOf (step b x .1) ≡ listingBytes (v .entries)
+        listing-after = listing-is (step b x .1) (holds-taken h x t e .nursery) ∙ ap listingBytes (sym same-after)
+
+        rest-after : Traced (hashBy m) z v rs
+        rest-after = rest v same-after
+
+        go : (none : Bool) → eqb (inserts + removes) 0 ≡ none
+            → Traced (hashBy m) z u (pick none [] (record { bytes = encoded m id wide inserts removes items; after = listingOf (step b x .1) } ∷ []) ++ rs)
+        go true q =
+            let stays = idle inserts removes change n (delta-read (lengthWidth wide) inserts removes items change (args .bytes) (taken .spelled)) (eqb-true (inserts + removes) 0 q) in
+            rest u (r ∙ sym (ap (λ (s : entries.State). s .entries) (next ∙ stays)))
+        go false q =
+            record {
+              steps = record { id = id; change = change; after = listingOf (step b x .1) } ∷ rest-after .steps;
+              same = rw (record-is id wide inserts removes items change (taken .spelled) (taken .accepted .short), ← rest-after .same);
+              applies = more (delta-carried (h .nursery) wide inserts removes items id (args .small-id) (args .bytes) taken) again (rest-after .applies);
+              listed = listed-more listing-after (rest-after .listed);
+            }
+
+    -- the records of an accepted call and of the calls after it
+    traced-call : (x : Call) (rs : List Logged) → typed x ≡ true → accepted (step b x .0) ≡ true
+        → ((v : entries.State) → Reads (nurseryAfter (z .settings .delay) x n) v → Traced (hashBy m) z v rs) → Traced (hashBy m) z u (loggedOf m x (listingOf (step b x .1)) ++ rs)
+    unfolding loggedOf nurseryAfter drained
+    traced-call allocate rs t e rest = rest u r
+    traced-call (batch words) rs t e rest = rest u r
+    traced-call (batchRecords ts) rs t e rest = rest u r
+    traced-call (delta id wide inserts removes items) rs t e rest = traced-delta id wide inserts removes items rs t e rest
+    traced-call (drain round out) rs t e rest = rest u r
+    traced-call (get idx) rs t e rest = rest u r
+    traced-call (shrink saved) rs t e rest = rest u r
+    traced-call (adjust saved) rs t e rest = rest u r
+    traced-call measure rs t e rest = rest u r
+    traced-call (serialize out) rs t e rest = rest u r
+    traced-call (lookup key) rs t e rest = rest u r
+    traced-call (locate key) rs t e rest = rest u r
+    traced-call (listing out) rs t e rest = rest u r
+
+  pub traced : {z : Fixed} {b : Box} {c : counts.State} {n u : entries.State} (xs : List Call) → all typed xs ≡ true → Holds z b c n → Reads n u → Traced (hashBy m) z u (records m b xs)
+  unfolding records all
+  traced [] t h r = record { steps = []; same = refl; applies = done; listed = listed-none }
+  traced {z} {b} {c} {n} {u} (x ∷ xs) t h r =
+      go (accepted (step b x .0)) refl (λ c′ n′ v g q. traced xs (and-right (typed x) (all typed xs) t) g q)
+    where
+      go : (ok : Bool) → accepted (step b x .0) ≡ ok
+          → ((c′ : counts.State) (n′ v : entries.State) → Holds z (step b x .1) c′ n′ → Reads n′ v → Traced (hashBy m) z v (records m (step b x .1) xs))
+          → Traced (hashBy m) z u (pick ok (loggedOf m x (listingOf (step b x .1))) [] ++ records m (step b x .1) xs)
+      go true e rest =
+          traced-call h r x (records m (step b x .1) xs) (and-left (typed x) (all typed xs) t) e
+          (λ v q. rest (countersAfter (z .settings .shrink) x c) (nurseryAfter (z .settings .delay) x n) v (holds-taken h x (and-left (typed x) (all typed xs) t) e) q)
+      go false e rest = rest c n u (rw (refused-same b (h .nursery) x e) h) r

@@ -1,22 +1,24 @@
 -- A box's calls one after the other: document 01's sequence of two allocations and two batches, what the plain box makes of the
--- calls, which records a journal has, what reading in answers, where every entry waits, and what other settings make of a box, fixed by evaluation. The order of each call's refusals stands in the crate that has the call.
+-- calls, which records a journal has, what reading in answers, where every entry waits, what other settings make of a box, and what a mode makes of reading in, fixed by evaluation. The order of each call's refusals stands in the crate that has the call.
 -- Assumes nothing.
 use mathlib.Core.Path.{_≡_, refl}
 use Prim.Native.Nat.{ℕ, _*_, _^_}
 use mathlib.Core.Bool.{true, false}
 use mathlib.Core.Option.{Option, none, some}
 use mathlib.Core.List.{List, [], _∷_, map}
-use lib.ListN.{length, take}
+use lib.ListN.{length, take, replicate}
 use Rattle.base.specs.Logic.{zeros, max64}
 use Rattle.base.specs.Answers.{answerNumber}
 use Rattle.base.specs.declared.Answer.the-variants.{Taken}
+use Rattle.blake3.specs.Mode.{Mode, modeOf, unkeyed, badKey}
 use Rattle.counters.specs.declared.CounterTransition.{CounterTransition}
-use Rattle.cell_nursery.specs.Entries.{Entry, State}
+use Rattle.cell_nursery.specs.Entries.{Entry, State, empty}
 use Rattle.cell_nursery.specs.Items.{Delta, itemBytes}
+use Rattle.cell_nursery.specs.Layout.{recordOf}
 use Rattle.node_box.specs.Box.{Settings, settingsInRange, standardSettings, Box, settingsOf, Call, allocate, batch, batchRecords, delta, drain, shrink, adjust, measure, locate, made, step, run, answers, snapshotOf}
 use Rattle.node_box.specs.Plain.{Plain, Cell, freshPlain, plainStep, runPlain}
 use Rattle.node_box.specs.Journal.{Logged, loggedOf, whole, Rebuild, rebuild}
-use Rattle.node_box.specs.Demand.{typed, everyEntryWaits}
+use Rattle.node_box.specs.Demand.{typed, History, readBack, everyEntryWaits}
 use Rattle.node_box.specs.Open.{evaluation}
 
 -- a fresh box at next index 0, with room for two counts, two entries and two cell bytes
@@ -55,9 +57,9 @@ change rs = delta 3 false 1 (length rs) (itemBytes (record { inserts = entry ∷
 abbrev changed : List ℕ → Plain
 changed rs = plainStep (freshPlain 0) (change rs) true
 
--- how many records a delta of some removes leaves in the journal, under a hash of no bytes
+-- how many records a delta of some removes leaves in the journal
 abbrev logged : ℕ → ℕ
-logged n = length (loggedOf (λ bs. []) (delta 3 false 0 n (zeros (32 * n))) [])
+logged n = length (loggedOf unkeyed (delta 3 false 0 n (zeros (32 * n))) [])
 
 -- how many of two records of two bytes are whole in the first k bytes
 abbrev pair : Logged
@@ -66,9 +68,9 @@ pair = record { bytes = 8 ∷ 9 ∷ []; after = [] }
 abbrev left : ℕ → ℕ
 left k = length (whole k (pair ∷ pair ∷ []))
 
--- a box read in from a snapshot and a journal, under a hash of 32 zeros: by it 40 zeros are a whole record without a payload, a misfit
+-- a box read in from a snapshot and a journal: 40 zeros are a whole record without a payload, and the hash doesn't match
 abbrev restored : List ℕ → List ℕ → Rebuild
-restored snapshot journal = rebuild (λ bs. zeros 32) standardSettings snapshot journal (zeros 4) (zeros 16) (zeros 10) (zeros 2)
+restored snapshot journal = rebuild unkeyed standardSettings snapshot journal (zeros 4) (zeros 16) (zeros 10) (zeros 2)
 
 -- the hash 1, born at 5, and waiting rows of that hash
 abbrev rows : List ℕ → State
@@ -86,7 +88,14 @@ abbrev threshold : Box → ℕ
 threshold b = b .counters .maintenance .«min_alive_removed_before_shrink»
 
 abbrev readIn : Settings → List ℕ → List ℕ → Rebuild
-readIn g snapshot journal = rebuild (λ bs. zeros 32) g snapshot journal (zeros 4) (zeros 16) (zeros 10) (zeros 2)
+readIn g snapshot journal = rebuild unkeyed g snapshot journal (zeros 4) (zeros 16) (zeros 10) (zeros 2)
+
+-- a box made in a mode, without a call on it; and the one read in from its snapshot and its journal, of no byte, into tables of nines
+abbrev uncalled : Mode → History
+uncalled m = record { settings = standardSettings; mode = m; next = 0; counts = zeros 4; entries = zeros 16; waiting = zeros 10; cells = zeros 2; calls = [] }
+
+abbrev again : Mode → Rebuild
+again m = readBack (uncalled m) 0 (zeros 4) (replicate 16 9) (replicate 10 9) (replicate 2 9)
 
 pub record SettingLines : Type 0 where
   -- document 01's settings are in their ranges
@@ -110,6 +119,16 @@ pub record SettingLines : Type 0 where
   -- 23 for a setting outside its range, before what the snapshot and the journal are refused with
   read-delay : answerNumber (readIn (slow 0) (snapshotOf slowBox) (zeros 40) .answer) ≡ 23
   read-base : answerNumber (readIn (record { delay = 300; shrink = record { base = 0; max = 35; «good_save» = 7 } }) [] [] .answer) ≡ 23
+
+pub record ModeLines : Type 0 where
+  -- in hash mode no key is bad
+  pub key-none : (key : List ℕ) → badKey (modeOf false key) ≡ false
+  -- 23 for a key of 31 bytes: the nursery's record is zeros, and its tables are as they were
+  short-answer : answerNumber (again (modeOf true (zeros 31)) .answer) ≡ 23
+  short-box : again (modeOf true (zeros 31)) .box ≡ record { counters = box .counters; counts = box .counts; nursery = recordOf 0 empty; entries = replicate 16 9; waiting = replicate 10 9; cells = replicate 2 9 }
+  -- under one of 32 bytes it is read in, and in hash mode whatever the key is
+  right-answer : answerNumber (again (modeOf true (zeros 32)) .answer) ≡ 0
+  none-answer : (key : List ℕ) → answerNumber (again (modeOf false key) .answer) ≡ 0
 
 pub record BoxLines : Type 0 where
   -- answer, next and live of the four calls
@@ -268,4 +287,15 @@ setting-lines =
       read-threshold = refl;
       read-delay = refl;
       read-base = refl;
+    }
+
+pub mode-lines : ModeLines
+unfolding evaluation
+mode-lines =
+    record {
+      key-none = λ key. refl;
+      short-answer = refl;
+      short-box = refl;
+      right-answer = refl;
+      none-answer = λ key. refl;
     }

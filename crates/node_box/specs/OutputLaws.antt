@@ -11,11 +11,12 @@ use lib.ListN.{length, take, drop, length-replicate}
 use lib.Seq.{take-at}
 use lib.Dec.{ltb}
 use borrow.Author.Tests.{le-ltb}
-use Rattle.base.specs.Logic.{zeros, overlay}
+use Rattle.base.specs.Logic.{pick, zeros, overlay}
 use Rattle.base.specs.Answers.{Outcome, refused, taken, _>>=_, _>>_, refuseIf, orRefuse, either, valueOr}
 use Rattle.base.specs.Maybe.{maybe}
 use Rattle.base.specs.Output.{fitting, put, written}
-use Rattle.base.specs.declared.Refusal.the-variants.{TooLong, OutputFull, Broken}
+use Rattle.base.specs.declared.Refusal.the-variants.{TooLong, OutputFull, Broken, BadSetting}
+use Rattle.blake3.specs.Mode.{Mode, badKey, hashBy}
 use Rattle.counters.specs.Layout as counters
 use Rattle.counters.specs.Calls.{onState}
 use Rattle.snapshot.specs.Write.{snapshotBytes}
@@ -30,7 +31,7 @@ use Rattle.cell_nursery.specs.Calls as nursery-calls
 use Rattle.cell_nursery.specs.Calls.{lengthWidth, DrainedOut, drainedOut, drainCall, listingCall}
 use Rattle.format.specs.Payload.{payloadBytes}
 use Rattle.format.specs.Record.{Encoding, recordBytes, statsOf, encode}
-use Rattle.format.specs.Calls.{EncodedOut, encodedOut, encodeCall}
+use Rattle.format.specs.Calls.{EncodedOut, encodedOut, encodeCall, encodeUnder}
 use Rattle.node_box.specs.Box.{Box, drain, serialize, listing, drainInto, serializeInto, listingInto, withNursery, step, nurseryOf, given, snapshotOf, listingOf}
 use Rattle.node_box.specs.Journal.{encoded}
 
@@ -204,9 +205,20 @@ module _ (hash : List ℕ → List ℕ) (id : ℕ) where
   encoding-whole none out l = unfold encodedOut overlay in (refl, refl)
   encoding-whole (some d) out l = let e = fitted-whole (encode hash id d) (room (some d)) (room-enough d) .0 in rw e (fitted-whole (encode hash id d) out (rw e at l))
 
-  -- it is the same in every output that is long enough, over its start
-  pub encoded-whole : (wide : Bool) (inserts removes : ℕ) (items out : List ℕ) → length (encoded hash id wide inserts removes items) ≤ length out
-      → let e = encodeCall hash id wide inserts removes items out in
-      (encodedBytes e ≡ encoded hash id wide inserts removes items) × (e .out ≡ overlay (encoded hash id wide inserts removes items) out)
-  unfolding encoded encodeCall
-  encoded-whole wide inserts removes items out l = encoding-whole (deltaOf (lengthWidth wide) inserts removes items) out l
+-- in any mode it is the same in every output that is long enough, over its start
+pub encoded-whole : (m : Mode) (id : ℕ) (wide : Bool) (inserts removes : ℕ) (items out : List ℕ) → length (encoded m id wide inserts removes items) ≤ length out
+    → let e = encodeUnder m id wide inserts removes items out in
+    (encodedBytes e ≡ encoded m id wide inserts removes items) × (e .out ≡ overlay (encoded m id wide inserts removes items) out)
+unfolding encoded encodeUnder encodeCall
+encoded-whole m id wide inserts removes items out = go (badKey m)
+  where
+    delta : Option Delta
+    delta = deltaOf (lengthWidth wide) inserts removes items
+
+    under : Bool → List ℕ → EncodedOut
+    under bad y = pick bad (encodedOut y (refused BadSetting)) (encoding (hashBy m) id y delta)
+
+    go : (bad : Bool) → let bs = encodedBytes (under bad (room (hashBy m) id delta)) in
+        length bs ≤ length out → (encodedBytes (under bad out) ≡ bs) × (under bad out .out ≡ overlay bs out)
+    go true l = unfold encodedOut overlay in (refl, refl)
+    go false l = encoding-whole (hashBy m) id delta out l

@@ -11,7 +11,7 @@ use Rattle.base.specs.Logic.{pick, all, elem, flat, keep, overlay}
 use Rattle.base.specs.ListLaws.{Among}
 use Rattle.base.specs.Maybe.{maybe}
 use Rattle.base.specs.declared.Answer.the-variants.{Taken}
-use Rattle.blake3.specs.Spec.{hash}
+use Rattle.blake3.specs.Mode.{Mode}
 use Rattle.cell_nursery.specs.Entries.{Entry}
 use Rattle.cell_nursery.specs.Items.{Delta, deltaOf}
 use Rattle.cell_nursery.specs.Drain.{promoted, promotedBytes}
@@ -132,10 +132,10 @@ pub record PromotedOnce (e : Entry) (b : Box) (xs : List Call) : Type 0 where
       (drainInto (run b xs) round out .result .len ≡ length written) × (drainInto (run b xs) round out .out ≡ overlay written out)
 
 pub record Promotion : Type 0 where
-  -- a box that is made, or read in from any snapshot and journal that are taken, holds a state, and any call on one leaves one; the cells are a slice
+  -- a box that is made, or read in, in any mode, from any snapshot and journal that are taken, holds a state, and any call on one leaves one; the cells are a slice
   pub made-holds : (g : Settings) (next : ℕ) (t es ws cs : List ℕ) → delayInRange (g .delay) ≡ true → length cs < 2 ^ 64 → HoldsState (made g next t es ws cs)
-  pub rebuilt-holds : (g : Settings) (snapshot journal t es ws cs : List ℕ) → all (λ b. ltb b 256) journal ≡ true → length cs < 2 ^ 64
-      → rebuild hash g snapshot journal t es ws cs .answer ≡ Taken → HoldsState (rebuild hash g snapshot journal t es ws cs .box)
+  pub rebuilt-holds : (m : Mode) (g : Settings) (snapshot journal t es ws cs : List ℕ) → all (λ b. ltb b 256) journal ≡ true → length cs < 2 ^ 64
+      → rebuild m g snapshot journal t es ws cs .answer ≡ Taken → HoldsState (rebuild m g snapshot journal t es ws cs .box)
   pub called-holds : (b : Box) (x : Call) → HoldsState b → typed x ≡ true → length (b .cells) < 2 ^ 64 → HoldsState (step b x .1)
   -- an entry that isn't removed is handed out once, whatever is called from its insert on
   pub once : (e : Entry) (b : Box) (x : Call) (xs : List Call) → Inserted e b x xs → PromotedOnce e b (x ∷ xs)

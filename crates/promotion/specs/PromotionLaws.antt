@@ -19,15 +19,16 @@ use Rattle.base.specs.Output.{fitting}
 use Rattle.base.specs.declared.Answer.{Answer}
 use Rattle.base.specs.declared.Answer.the-variants.{Taken, Refused}
 use Rattle.base.specs.declared.Refusal.the-variants.{OutputFull}
-use Rattle.blake3.specs.Spec.{hash}
+use Rattle.blake3.specs.Mode.{Mode, hashBy}
 use Rattle.cell_nursery.specs.Entries.{Entry, State, empty}
 use Rattle.cell_nursery.specs.Drain.{due, promoted, promotedBytes, drained, drainBytes}
 use Rattle.cell_nursery.specs.DrainLaws.{named-absent}
 use Rattle.cell_nursery.specs.Layout.{entriesTable, waitingTable, roomOf, delayInRange}
 use Rattle.cell_nursery.specs.Calls.{DrainedOut, drainedOut}
 use Rattle.snapshot.specs.Calls.{deserializeCall}
-use Rattle.journal.specs.Journal.{readJournal, ReadIn, readOut, readCall}
+use Rattle.journal.specs.Journal.{readJournal, ReadIn, readOut, readUnder}
 use Rattle.journal.specs.ReadLaws.{read-taken}
+use Rattle.journal.specs.ModeLaws.{read-taken-under}
 use Rattle.journal_laws.specs.LoadLaws.{journal-loaded}
 use Rattle.node_box.specs.Box.{Settings, Box, Call, allocate, batch, batchRecords, delta, drain, get, shrink, adjust, measure, serialize, lookup, locate, listing, made, accepted, drainInto, step, run, nurseryOf}
 use Rattle.node_box.specs.Journal.{bothTaken, rebuild}
@@ -78,16 +79,18 @@ second-taken : (a b : Answer) → bothTaken a b ≡ Taken → b ≡ Taken
 second-taken Taken b e = e
 second-taken (Refused r) b e = absurd (not-refused (sym e))
 
-rebuilt-holds : (g : Settings) (snapshot journal t es ws cs : List ℕ) → all (λ b. ltb b 256) journal ≡ true → length cs < 2 ^ 64
-    → rebuild hash g snapshot journal t es ws cs .answer ≡ Taken → HoldsState (rebuild hash g snapshot journal t es ws cs .box)
+rebuilt-holds : (m : Mode) (g : Settings) (snapshot journal t es ws cs : List ℕ) → all (λ b. ltb b 256) journal ≡ true → length cs < 2 ^ 64
+    → rebuild m g snapshot journal t es ws cs .answer ≡ Taken → HoldsState (rebuild m g snapshot journal t es ws cs .box)
 unfolding rebuild readOut roomOf
-rebuilt-holds g snapshot journal t es ws cs b l e =
+rebuilt-holds m g snapshot journal t es ws cs b l e =
     let c = deserializeCall (g .shrink) snapshot t in
-    let r = journal-loaded hash (roomOf es ws cs) journal b in
-    let s = readJournal hash (roomOf es ws cs) journal .state in
-    let (undamaged, read, ranged) = read-taken hash (g .delay) journal es ws cs (second-taken (c .result .answer) (readCall hash (g .delay) journal es ws cs .result .answer) e) in
+    let r = journal-loaded (hashBy m) (roomOf es ws cs) journal b in
+    let s = readJournal (hashBy m) (roomOf es ws cs) journal .state in
+    let answered = second-taken (c .result .answer) (readUnder m (g .delay) journal es ws cs .result .answer) e in
+    let (good, under) = read-taken-under m (g .delay) journal es ws cs answered in
+    let (undamaged, read, ranged) = read-taken (hashBy m) (g .delay) journal es ws cs (rw under at answered) in
     subst (λ (x : ReadIn).
-    HoldsState (record { counters = c .result .counters; counts = c .table; nursery = x .result .nursery; entries = x .entries; waiting = x .waiting; cells = x .cells })) (sym read)
+    HoldsState (record { counters = c .result .counters; counts = c .table; nursery = x .result .nursery; entries = x .entries; waiting = x .waiting; cells = x .cells })) (sym (under ∙ read))
     (held-state (record { le = length es; lw = length ws; lc = length cs; state = s; held = laid-held (g .delay) es ws cs s ranged (r .well) (r .room) }) l)
 
 called-holds : (b : Box) (x : Call) → HoldsState b → typed x ≡ true → length (b .cells) < 2 ^ 64 → HoldsState (step b x .1)
