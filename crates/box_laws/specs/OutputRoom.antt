@@ -18,6 +18,7 @@ use Rattle.base.specs.declared.Answer.the-variants.{Taken, Refused}
 use Rattle.base.specs.declared.Refusal.the-variants.{OutputFull}
 use Rattle.base.specs.MaybeLaws.{Gives, gives}
 use Rattle.base.specs.SpellLaws.{Bytes}
+use Rattle.blake3.specs.Mode.{unkeyed}
 use Rattle.node_box.specs.Box.{standardSettings, Box, Call, allocate, batch, delta, made, step, run}
 use Rattle.node_box.specs.Demand.{start, end}
 use Rattle.node_box.specs.Order.{setting-lines, mode-lines}
@@ -88,7 +89,7 @@ made-holds : (k e w c : ℕ) → Holding (record { settings = standardSettings; 
 unfolding end start run all
 made-holds k e w c =
     rw (length-replicate {A = ℕ} k 0, length-replicate {A = ℕ} e 0, length-replicate {A = ℕ} w 0, length-replicate {A = ℕ} c 0) at
-    (holding (record { settings = standardSettings; mode = record { underKey = false; key = [] }; next = 0; counts = zeros k; entries = zeros e; waiting = zeros w; cells = zeros c; calls = [] }) (record { settings = setting-lines .standard-ranged; mode = mode-lines .key-none []; next = omega arith; calls = refl }))
+    (holding (record { settings = standardSettings; mode = unkeyed; next = 0; counts = zeros k; entries = zeros e; waiting = zeros w; cells = zeros c; calls = [] }) (record { settings = setting-lines .standard-ranged; mode = mode-lines .key-none []; next = omega arith; calls = refl }))
 
 run-holds : Holding runFixed runBox
 unfolding runBox

@@ -19,14 +19,15 @@ use Rattle.base.specs.Bytes.{le32, le64, cut, readList}
 use Rattle.base.specs.Laws.{readLe-append}
 use Rattle.base.specs.Answers.{answerNumber, taken, orRefuse, refuseIf, _>>=_, _>>_}
 use Rattle.base.specs.declared.Answer.the-variants.{Taken, Refused}
-use Rattle.base.specs.declared.Refusal.the-variants.{OutputFull, Misfit, Broken}
+use Rattle.base.specs.declared.Refusal.the-variants.{OutputFull, Misfit, Broken, BadSetting}
+use Rattle.blake3.specs.Mode.{Mode, modeOf}
 use Rattle.cell_nursery.specs.Entries.{Entry, hashBytes}
 use Rattle.cell_nursery.specs.Items.{Delta, readHash, readInsert, deltaOf}
 use Rattle.cell_nursery.specs.Delta.{tooLong}
 use Rattle.cell_nursery.specs.ItemLaws.{readHash-append}
 use Rattle.format.specs.declared.RecordStats.{RecordStats}
 use Rattle.format.specs.Record.{recordBytes, encode}
-use Rattle.format.specs.Calls.{EncodedOut, encodedOut, encodeCall, decodeCall}
+use Rattle.format.specs.Calls.{EncodedOut, encodedOut, encodeCall, encodeUnder, decodeCall, decodeUnder}
 use Rattle.format.specs.Open.{evaluation}
 
 -- the stand-in for the hash
@@ -130,6 +131,31 @@ pub record RefusalBounds : Type 0 where
   items-long : answerNumber (encodedTo (zeros 88) 0 1 (zeros 33) .result .answer) ≡ 0
   -- beside a refusal stand zeros
   refused : decodeCall firstBytes (recordOf (zeros 15)) ≡ record { answer = Refused Misfit; id = 0; hash = zeros 32; «items_at» = 0; «items_len» = 0; stats = stats 0 0 0 0 0 }
+
+-- decoding and encoding in a mode
+abbrev decodedIn : Mode → List ℕ → ℕ
+decodedIn m bs = answerNumber (decodeUnder m bs .answer)
+
+abbrev encodedIn : Mode → ℕ → List ℕ → EncodedOut
+encodedIn m rs out = encodeUnder m 5 false 0 rs [] out
+
+pub record KeyOrder : Type 0 where
+  -- 23: a key of 31 or 33 bytes, or of none; with 32 the rest comes, here 16
+  short-key : decodedIn (modeOf true (zeros 31)) [] ≡ 23
+  long-key : decodedIn (modeOf true (zeros 33)) [] ≡ 23
+  empty-key : decodedIn (modeOf true []) [] ≡ 23
+  right-key : decodedIn (modeOf true (zeros 32)) [] ≡ 16
+  -- without a key its bytes aren't looked at
+  no-key : decodedIn (modeOf false []) [] ≡ 16
+  not-looked-at : decodedIn (modeOf false (zeros 33)) [] ≡ 16
+  -- before 17, and before 20 and 15 in encoding
+  before-seventeen : decodedIn (modeOf true []) (zeros 32 ++ le64 (2 ^ 64 - 8)) ≡ 23
+  before-twenty : answerNumber (encodedIn (modeOf true []) 1 [] .result .answer) ≡ 23
+  before-fifteen : answerNumber (encodedIn (modeOf true []) 0 [] .result .answer) ≡ 23
+  -- beside it stand zeros, and the output is as it was
+  refused : decodeUnder (modeOf true []) noItems ≡ record { answer = Refused BadSetting; id = 0; hash = zeros 32; «items_at» = 0; «items_len» = 0; stats = stats 0 0 0 0 0 }
+  not-written : encodedIn (modeOf true (zeros 31)) 0 (replicate 57 9)
+      ≡ record { result = record { answer = Refused BadSetting; len = 0; stats = stats 0 0 0 0 0 }; out = replicate 57 9 }
 
 -- an insert of the hash 258 and a cell of 3 bytes, at index 772, born at round 1286; and the hash 1800 removed
 abbrev sample : Entry
@@ -251,6 +277,23 @@ refusal-bounds =
       items-short = refl;
       items-long = refl;
       refused = refl;
+    }
+
+pub key-order : KeyOrder
+unfolding evaluation
+key-order =
+    record {
+      short-key = refl;
+      long-key = refl;
+      empty-key = refl;
+      right-key = refl;
+      no-key = refl;
+      not-looked-at = refl;
+      before-seventeen = refl;
+      before-twenty = refl;
+      before-fifteen = refl;
+      refused = refl;
+      not-written = refl;
     }
 
 pub fields : Fields

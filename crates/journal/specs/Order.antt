@@ -4,14 +4,18 @@
 use mathlib.Core.Path.{_≡_, refl}
 use Prim.Native.Nat.{ℕ}
 use mathlib.Core.List.{List, [], _∷_, _++_}
+use mathlib.Core.Bool.{true, false}
 use lib.ListN.{take, drop, replicate}
 use Rattle.base.specs.Logic.{zeros}
 use Rattle.base.specs.Answers.{answerNumber}
+use Rattle.base.specs.declared.Answer.the-variants.{Taken, Refused}
+use Rattle.base.specs.declared.Refusal.the-variants.{FarLength, BadSetting}
+use Rattle.blake3.specs.Mode.{Mode, modeOf}
 use Rattle.cell_nursery.specs.Entries.{Entry, empty, insert}
 use Rattle.cell_nursery.specs.Drain.{promotionDelay}
 use Rattle.cell_nursery.specs.Layout.{recordOf, entriesTable, waitingTable}
 use Rattle.format.specs.Record.{recordBytes}
-use Rattle.journal.specs.Journal.{ReadIn, scan, readCall}
+use Rattle.journal.specs.Journal.{ReadIn, scan, scanUnder, notRead, readCall, readUnder}
 use Rattle.journal.specs.Open.{evaluation}
 
 -- the stand-in for the hash
@@ -82,7 +86,7 @@ set-wrong = record { answer = 23; applied = 0; place = 0; number = 0 }
 
 -- how the scan of bytes ends
 abbrev scanned : List ℕ → Ending
-scanned bs = let r = scan firstBytes bs in record { answer = 0; applied = r .records; place = r .place; number = answerNumber (r .ended) }
+scanned bs = let r = scan firstBytes bs in record { answer = answerNumber (r .answer); applied = r .records; place = r .place; number = answerNumber (r .ended) }
 
 -- a whole record read under a delay that is out of range
 abbrev unset : ReadIn
@@ -146,6 +150,36 @@ pub record Endings : Type 0 where
   set-least : endingUnder 1 (put 1) ≡ record { answer = 0; applied = 1; place = 102; number = 0 }
   set-most : endingUnder 10000 (put 1) ≡ record { answer = 0; applied = 1; place = 102; number = 0 }
   set-kept : readCall firstBytes 7 (put 1) (zeros 8) (zeros 5) [] .result .nursery ≡ recordOf 7 (insert (entry 1) empty)
+
+-- in a mode: a bad key is 23 before a byte is looked at, beside a bad delay too; without a key its bytes aren't looked at
+abbrev inMode : Mode → ℕ → List ℕ → ReadIn
+inMode m delay bs = readUnder m delay bs (9 ∷ zeros 16) (9 ∷ zeros 10) (9 ∷ [])
+
+pub record KeyEndings : Type 0 where
+  short-key : inMode (modeOf true (zeros 31)) promotionDelay [] ≡ notRead BadSetting (9 ∷ zeros 16) (9 ∷ zeros 10) (9 ∷ [])
+  before-damage : inMode (modeOf true []) promotionDelay far ≡ notRead BadSetting (9 ∷ zeros 16) (9 ∷ zeros 10) (9 ∷ [])
+  beside-delay : inMode (modeOf true (zeros 33)) 0 far ≡ notRead BadSetting (9 ∷ zeros 16) (9 ∷ zeros 10) (9 ∷ [])
+  right-key : answerNumber (inMode (modeOf true (zeros 32)) promotionDelay far .result .answer) ≡ 21
+  right-key-delay : answerNumber (inMode (modeOf true (zeros 32)) 0 far .result .answer) ≡ 23
+  not-looked-at : answerNumber (inMode (modeOf false (zeros 33)) promotionDelay [] .result .answer) ≡ 0
+  scan-short-key : scanUnder (modeOf true (zeros 31)) far ≡ record { answer = Refused BadSetting; records = 0; place = 0; ended = Taken }
+  scan-right-key : scanUnder (modeOf true (zeros 32)) far ≡ record { answer = Taken; records = 0; place = 0; ended = Refused FarLength }
+  scan-not-looked-at : scanUnder (modeOf false []) [] ≡ record { answer = Taken; records = 0; place = 0; ended = Taken }
+
+pub key-endings : KeyEndings
+unfolding evaluation
+key-endings =
+    record {
+      short-key = refl;
+      before-damage = refl;
+      beside-delay = refl;
+      right-key = refl;
+      right-key-delay = refl;
+      not-looked-at = refl;
+      scan-short-key = refl;
+      scan-right-key = refl;
+      scan-not-looked-at = refl;
+    }
 
 pub endings : Endings
 unfolding evaluation
