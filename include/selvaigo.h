@@ -7,8 +7,7 @@
  * given. No call keeps a pointer, allocates, or takes a lock, and every call ends.
  *
  * Every call but three returns an answer: 0 where it was taken, else the number of its refusal (SELVAIGO_...). Beside a refusal
- * values are zeros, and no record and no slice is changed. Output beyond an answer isn't touched. Scanning a journal is never
- * refused.
+ * values are zeros, and no record and no slice is changed. Output beyond an answer isn't touched.
  *
  * A box is two state records and four tables, which the caller owns and lends to each call in the size and with the content that
  * the call before left. docs/LAYOUT.md has them word by word.
@@ -31,6 +30,16 @@
  *
  * Making and reading in with one outside its range are refused with SELVAIGO_BAD_SETTING, before anything else. The standard ones
  * are named SELVAIGO_STANDARD_...; no call takes them by itself.
+ *
+ * The records of a box are hashed in one mode, and in keyed mode under one key. Each call that writes or reads them is given both:
+ *
+ *   keyed         0 for BLAKE3's hash mode, any other number for its keyed mode
+ *   key, key_len  in keyed mode 32 bytes; in hash mode any slice, an empty one will do: no byte of it is looked at
+ *
+ * In keyed mode a key that isn't of 32 bytes, an empty one too, is refused with SELVAIGO_BAD_SETTING, before anything else, whatever
+ * else the call is given. Neither mode nor key stands in a state record, a snapshot or a journal: the caller keeps them, and gives
+ * them to each call. A whole record is SELVAIGO_MISMATCH exactly when its hash isn't the one in the mode and under the key given: so are
+ * records of another key, or of none, as far as BLAKE3 keeps their hashes apart.
  *
  * A record and tables that hold no state in that layout are SELVAIGO_BROKEN, before all else; so is a record with a setting outside
  * its range. The check is a pass over the tables that the call is lent, and a look-up in the entries for each waiting row;
@@ -80,12 +89,12 @@ enum {
     SELVAIGO_OUTPUT_FULL = 15,   /* the lent output is shorter than the answer */
     SELVAIGO_SHORT_RECORD = 16,  /* under 40 bytes, or fewer than 40 and the stated length */
     SELVAIGO_FAR_LENGTH = 17,    /* a stated length at or above 2^64 - 8 */
-    SELVAIGO_MISMATCH = 18,      /* the hash of a record is wrong */
+    SELVAIGO_MISMATCH = 18,      /* the hash of a record isn't the one in the mode and under the key given */
     SELVAIGO_MISFIT = 19,        /* a stated length under 16, or items that run past it */
     SELVAIGO_BROKEN = 20,        /* what is lent isn't in the layout */
     SELVAIGO_DAMAGED = 21,       /* a record of a journal is refused with another number than 16 */
     SELVAIGO_LEFTOVER = 22,      /* bytes of a record's payload are left over after its last item */
-    SELVAIGO_BAD_SETTING = 23,   /* a setting that a box is made or read in with is outside its range */
+    SELVAIGO_BAD_SETTING = 23,   /* a setting that a box is made or read in with is outside its range, or a key isn't of 32 bytes */
     /* No call answers 24. */
     SELVAIGO_FEW_CELLS = 25      /* fewer cells than counts: stored counts after the call exceed the live total */
 };
@@ -123,7 +132,7 @@ uint8_t selvaigo_shrink_if_needed_held(uint64_t state[SELVAIGO_STATE], const uin
                                        uint64_t bytes_saved, uint64_t shrunk[9]);
 
 /* The rule of it alone, 1 yes, 0 no; and the threshold that follows a yes: shrink_base where bytes_saved is good_save or more, else twice
- * the threshold, or shrink_max if that is less. These two and the hash refuse nothing, whatever the numbers are. */
+ * the threshold, or shrink_max if that is less. These two and selvaigo_hash refuse nothing, whatever the numbers are. */
 uint8_t selvaigo_should_shrink(uint64_t alive, uint64_t removed_since_shrink, uint64_t min_removed);
 uint64_t selvaigo_adjust_shrink_threshold(uint64_t min_alive_removed_before_shrink, uint64_t bytes_saved, uint64_t shrink_base,
                                           uint64_t shrink_max, uint64_t good_save);
@@ -208,34 +217,44 @@ uint8_t selvaigo_snapshot_entries_held(const uint64_t nursery[SELVAIGO_NURSERY],
 /* BLAKE3 of bytes: writes hash. */
 void selvaigo_hash(const uint8_t *bytes, size_t bytes_len, uint8_t hash[32]);
 
+/* BLAKE3 of bytes under a key: writes hash. The only refusal is SELVAIGO_BAD_SETTING, of a key that isn't of 32 bytes. */
+uint8_t selvaigo_keyed_hash(const uint8_t *key, size_t key_len, const uint8_t *bytes, size_t bytes_len, uint8_t hash[32]);
+
 /* The record of a delta (stated as for selvaigo_apply_commit; what follows its items is ignored and not written): writes the first
- * figures[0] bytes of out, and the figures: the record's length, payload bytes, metadata bytes, cell bytes, inserts, removes. */
-uint8_t selvaigo_encode_record(uint64_t id, uint8_t wide, uint64_t inserts, uint64_t removes, const uint8_t *items,
-                               size_t items_len, uint8_t *out, size_t out_len, uint64_t figures[6]);
+ * figures[0] bytes of out, and the figures: the record's length, payload bytes, metadata bytes, cell bytes, inserts, removes. Refused with
+ * SELVAIGO_BAD_SETTING for its key; then with 20, 14, 15. */
+uint8_t selvaigo_encode_record(uint8_t keyed, const uint8_t *key, size_t key_len, uint64_t id, uint8_t wide, uint64_t inserts,
+                               uint64_t removes, const uint8_t *items, size_t items_len, uint8_t *out, size_t out_len,
+                               uint64_t figures[6]);
 
 /* The record that bytes start with, whatever follows it: writes its hash, and the figures: id, place of the items in bytes, their length,
- * payload bytes, metadata bytes, cell bytes, inserts, removes. Refused with 16 to 19; then, if its payload goes on after the last item, with
- * SELVAIGO_LEFTOVER. What is taken is what selvaigo_encode_record writes, byte for byte. */
-uint8_t selvaigo_decode_record(const uint8_t *bytes, size_t bytes_len, uint64_t figures[8], uint8_t hash[32]);
+ * payload bytes, metadata bytes, cell bytes, inserts, removes. Refused with SELVAIGO_BAD_SETTING for its key; then with 16 to 19; then, if its
+ * payload goes on after the last item, with SELVAIGO_LEFTOVER. What is taken is what selvaigo_encode_record writes in that mode, byte for
+ * byte. */
+uint8_t selvaigo_decode_record(uint8_t keyed, const uint8_t *key, size_t key_len, const uint8_t *bytes, size_t bytes_len,
+                               uint64_t figures[8], uint8_t hash[32]);
 
 /* The records of a journal, one after another, whatever their deltas are; none is applied. Writes scan: how many are taken, the place after the
  * last of them, and the number that the record there is refused with: 0 at the journal's end, 16 where it is cut. Any other number is
- * damage, SELVAIGO_LEFTOVER among them: reading the journal is refused. Always taken. */
-uint8_t selvaigo_scan_journal(const uint8_t *journal, size_t journal_len, uint64_t scan[3]);
+ * damage, SELVAIGO_LEFTOVER among them: reading the journal is refused. The only refusal of the scan is SELVAIGO_BAD_SETTING, of its key. */
+uint8_t selvaigo_scan_journal(uint8_t keyed, const uint8_t *key, size_t key_len, const uint8_t *journal, size_t journal_len,
+                              uint64_t scan[3]);
 
 /* A journal, read into an empty nursery with a delay, of which it says nothing: writes nursery, entries, waiting and cells, whatever was
  * in them, and read: records applied, the place after the last of them, and the number that ended it: 0 at the journal's end, 16 where
  * the record there is cut, 12 or 13 where its delta is refused, and no other; what was applied stays. There are two refusals:
- * SELVAIGO_BAD_SETTING, whatever the journal is; and SELVAIGO_DAMAGED, where the scan above finds damage, also behind a delta that
- * would be refused; it comes before any delta is applied. */
-uint8_t selvaigo_read_journal(const uint8_t *journal, size_t journal_len, uint64_t delay, uint64_t nursery[SELVAIGO_NURSERY],
-                              uint64_t *entries, size_t entries_len, uint64_t *waiting, size_t waiting_len, uint8_t *cells,
-                              size_t cells_len, uint64_t read[3]);
+ * SELVAIGO_BAD_SETTING, of key or delay, whatever the journal is; and SELVAIGO_DAMAGED, where the scan above finds damage, also behind a delta
+ * that would be refused; it comes before any delta is applied. A journal of another key or mode has such damage in its first record, if that is
+ * whole. */
+uint8_t selvaigo_read_journal(uint8_t keyed, const uint8_t *key, size_t key_len, const uint8_t *journal, size_t journal_len,
+                              uint64_t delay, uint64_t nursery[SELVAIGO_NURSERY], uint64_t *entries, size_t entries_len,
+                              uint64_t *waiting, size_t waiting_len, uint8_t *cells, size_t cells_len, uint64_t read[3]);
 
 /* A journal of the time when bytes after a payload's last item were passed over, rewritten for the rule that refuses them: each record
  * without such leftovers, with its length and its hash set anew; one that has none comes out as it was. From the first record on that is
  * refused with 16 to 19 all bytes are copied unchanged: a cut stays a cut, and damage stays damage. Reading the new journal gives what reading the
- * old one gave then, and converting it again changes nothing.
+ * old one gave then, and converting it again changes nothing. It is always done in hash mode: records under
+ * a key are 18 there, so a journal of them comes out as it was.
  *
  * Writes the new journal to the front of out, and to the front of dropped 16 bytes for each record that had leftovers: the place of the first of
  * them in the old journal and how many they are, each a u64, little-endian; and lengths: bytes of the new journal, bytes of that list. The

@@ -1,7 +1,7 @@
 #!/bin/sh
-# The proved hash beside the official one: its portable code, its SSE2 code, and the best that the machine has.
+# The proved hash beside the official one, without a key and under one: its portable code, its SSE2 code, and the best that the machine has.
 #
-#   run.sh          times: a line for each size, the ratio of the speeds last (1.00: as fast as the official code)
+#   run.sh          times: two lines for each size, the ratio of the speeds last (1.00: as fast as the official code)
 #   run.sh count    instructions per hash, by callgrind
 #
 # Needs Debian's packages librust-blake3-dev and, to count, valgrind.
@@ -18,7 +18,7 @@ for kind in portable sse2 best; do
         continue
     fi
     for size in 64 1024 16384 1048576; do
-        for who in proved official; do
+        for who in proved official proved_keyed official_keyed; do
             # the difference of two runs leaves out what a program does once
             counts=$(for times in 10 20; do
                 valgrind --tool=callgrind --callgrind-out-file=/dev/null "$bench" "$who" "$size" "$times" 2>&1 | sed -n 's/.*Collected : //p'

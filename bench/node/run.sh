@@ -1,6 +1,7 @@
 #!/bin/sh
 # The proved calls beside the original Rust, which is compiled unchanged from the folder in TYCHO_SRC (it holds core/src/storage/shard_state), in one
 # process: a table with a line for each comparison, the ratios of the speeds last (1: as fast as the original). Each line has seen both sides give the same answer.
+# In the lines named keyed the port's records are under a key; the original has none, so its side is the same as in the lines without, and the answers are the same but for the hashes.
 # Behind it, a table of journals that are converted, which the original doesn't do, beside the time that hashing them takes.
 #
 #   TYCHO_SRC=DIR run.sh [--quick] [WORD ..]     only the lines whose names have one of the words; quick: fewer turns

@@ -662,7 +662,10 @@ impl Sides {
 
     fn hash(&mut self, bytes: &[u8]) -> Compared {
         self.tally.bytes += bytes.len() as u64;
-        same("port", "hash", &selvaigo::hash(bytes), &Original::hash(bytes))
+        let hash = Original::hash(bytes);
+        same("port", "hash", &selvaigo::hash(bytes), &hash)?;
+        // The original's library has keyed mode too. Any 32 bytes are a key.
+        same("port", "keyed hash", &selvaigo::keyed_hash(&hash, bytes), &Original::keyed_hash(&hash, bytes))
     }
 }
 

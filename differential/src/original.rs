@@ -238,4 +238,9 @@ impl Original {
     pub fn hash(bytes: &[u8]) -> Hash {
         *blake3::hash(bytes).as_bytes()
     }
+
+    /// Of its library alone: the original hashes nothing under a key.
+    pub fn keyed_hash(key: &Hash, bytes: &[u8]) -> Hash {
+        *blake3::keyed_hash(key, bytes).as_bytes()
+    }
 }

@@ -1,8 +1,9 @@
 //! The port's side: the crate `selvaigo` over tables of the run's sizes. A call that changes nothing is made in both forms, held and
 //! checked, which have to agree; the others are made in the form that the run names. A checked call's tables are judged again after it.
+//! Records and journals are without a key, as the original's are.
 use selvaigo::{
-    CellNursery, CounterTransition, Counters, DeltaItems, Dropped, HashBytes, Idx, NextIdx, NurseryParts, PromotedCell, Refusal,
-    ShrinkSettings, raw, sys,
+    CellNursery, CounterTransition, Counters, DeltaItems, Dropped, HashBytes, Idx, Mode, NextIdx, NurseryParts, PromotedCell,
+    Refusal, ShrinkSettings, raw, sys,
 };
 
 use crate::definition::{self, Drained, Ended, Refused, items};
@@ -221,23 +222,24 @@ impl Port {
     }
 
     pub fn encode_record(id: u64, delta: &Delta, out: &mut [u8]) -> Refused<(usize, Stats)> {
-        number(selvaigo::encode_items(id, &lent(delta), out)).map(|(len, s)| (len, stats(s)))
+        number(selvaigo::encode_items(&Mode::Unkeyed, id, &lent(delta), out)).map(|(len, s)| (len, stats(s)))
     }
 
     pub fn decode_record(bytes: &[u8]) -> Refused<Decoded<'_>> {
-        let d = number(selvaigo::decode_record(bytes))?;
+        let d = number(selvaigo::decode_record(&Mode::Unkeyed, bytes))?;
         let std::borrow::Cow::Borrowed(items) = d.items.bytes else { panic!("items that aren't in the record's bytes") };
         Ok(Decoded { id: d.id, hash: d.hash, stats: stats(d.stats), items })
     }
 
     pub fn scan_journal(journal: &[u8]) -> Ended {
-        let scan = selvaigo::scan_journal(journal);
+        let scan = selvaigo::scan_journal(&Mode::Unkeyed, journal);
         (scan.records as usize, scan.place, scan.refusal.map_or(0, Refusal::number))
     }
 
     /// The damaged record for which new tables are refused; where it stands, as the scan gives it.
     pub fn damaged_record(journal: &[u8]) -> Option<Ended> {
-        let damaged = selvaigo::read_journal(journal, 0, 0, DELAY).err()?.damaged().expect("a delay in its range");
+        let read = selvaigo::read_journal(&Mode::Unkeyed, journal, 0, 0, DELAY);
+        let damaged = read.err()?.damaged().expect("a delay in its range");
         assert_eq!(damaged.number(), 21);
         Some((damaged.records as usize, damaged.place, damaged.refusal.number()))
     }
@@ -258,7 +260,7 @@ impl Port {
     pub fn read_journal(&mut self, journal: &[u8], sizes: &Sizes, keep: bool) -> Refused<(Ended, Vec<u8>)> {
         let mut p = if keep { self.nursery.clone().into_parts() } else { unread(sizes) };
         let before = p.clone();
-        let answer = raw::read_journal(journal, DELAY, &mut p.nursery, &mut p.entries, &mut p.waiting, &mut p.cells);
+        let answer = raw::read_journal(None, journal, DELAY, &mut p.nursery, &mut p.entries, &mut p.waiting, &mut p.cells);
         if let Err(refusal) = answer {
             let zeros = read_values(journal, &mut p) == (refusal.number(), [0; 3]);
             assert!(zeros, "the port's values beside a refused journal aren't zeros");
@@ -302,6 +304,9 @@ fn read_values(journal: &[u8], p: &mut NurseryParts) -> (u8, [u64; 3]) {
     // SAFETY: slices and arrays, none of which overlaps another.
     let answer = unsafe {
         sys::selvaigo_read_journal(
+            0,
+            [].as_ptr(),
+            0,
             journal.as_ptr(),
             journal.len(),
             DELAY,

@@ -6,6 +6,8 @@
 //! FILE.converting, with the same owner and permissions, and synced; then it takes the old one's name, and the folder is synced. So after a crash FILE is
 //! the old journal or the new one, whole, and FILE.converting, if it is there, is overwritten by the next run. Where nothing is to be dropped FILE isn't touched.
 //!
+//! A journal under a key is left as it is: its first record isn't one without a key, so it is said to be damaged, mismatch (18).
+//!
 //! Prints each stretch that is dropped, what became of the file, and where its records end: behind a record that is cut or damaged all is as it was. The
 //! exit status is 0 where FILE is converted now or was before, 1 with an error on standard error, 2 for other words than one FILE.
 use std::env;
@@ -17,7 +19,7 @@ use std::os::unix::fs::{MetadataExt, OpenOptionsExt, fchown};
 use std::path::Path;
 use std::process::ExitCode;
 
-use selvaigo::{Converted, Dropped, Refusal, convert_journal, scan_journal};
+use selvaigo::{Converted, Dropped, Mode, Refusal, convert_journal, scan_journal};
 
 fn main() -> ExitCode {
     let mut words = env::args_os().skip(1);
@@ -87,7 +89,7 @@ fn write_beside(beside: &Path, old: &File, bytes: &[u8]) -> io::Result<()> {
 }
 
 fn summary(old_len: usize, new: &Converted) -> String {
-    let scan = scan_journal(&new.journal);
+    let scan = scan_journal(&Mode::Unkeyed, &new.journal);
     // All that is dropped stands before the place where the records end.
     let (len, before) = (new.journal.len(), scan.place + old_len - new.journal.len());
     let done = match new.dropped.len() {

@@ -3,7 +3,7 @@ use std::borrow::Cow;
 use std::fmt;
 
 use crate::settings::check_delay;
-use crate::{Idx, JournalEnd, Refusal, raw, size, sys, taken, words};
+use crate::{Idx, JournalEnd, Mode, Refusal, raw, size, sys, taken, words};
 
 /// The hash of a cell.
 #[derive(Clone, Copy, PartialEq, Eq, Hash, PartialOrd, Ord)]
@@ -211,9 +211,15 @@ impl CellNursery {
     }
 
     // The nursery that a journal makes out of an empty one.
-    pub(crate) fn read(journal: &[u8], entries: usize, cell_bytes: usize, delay: u64) -> Result<(Self, JournalEnd), Refusal> {
+    pub(crate) fn read(
+        mode: &Mode,
+        journal: &[u8],
+        entries: usize,
+        cell_bytes: usize,
+        delay: u64,
+    ) -> Result<(Self, JournalEnd), Refusal> {
         let mut n = Self::unread(entries, cell_bytes, delay)?;
-        let end = raw::read_journal(journal, delay, &mut n.nursery, &mut n.entries, &mut n.waiting, &mut n.cells)?;
+        let end = raw::read_journal(mode.key(), journal, delay, &mut n.nursery, &mut n.entries, &mut n.waiting, &mut n.cells)?;
         Ok((n, end))
     }
 

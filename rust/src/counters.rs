@@ -142,7 +142,7 @@ impl Counters {
     /// It is for loading such a snapshot once: what is serialized then is read as any other.
     ///
     /// ```
-    /// use selvaigo::{Counters, NodeBox, Refusal, Room, Settings};
+    /// use selvaigo::{Counters, Mode, NodeBox, Refusal, Room, Settings};
     ///
     /// # use selvaigo::{CounterTransition, Idx, NextIdx};
     /// # let mut counters = Counters::new(NextIdx::new(2), 8, Settings::STANDARD.shrink())?;
@@ -160,7 +160,7 @@ impl Counters {
     /// let new = loaded.counters.serialize();
     ///
     /// // From here on `new` stands for `old`.
-    /// let restored = NodeBox::restore(&new, &journal, room, settings)?;
+    /// let restored = NodeBox::restore(&new, &journal, room, settings, Mode::Unkeyed)?;
     /// assert_eq!(restored.node_box.counters.live_cells(), 1);
     /// # Ok::<(), Box<dyn std::error::Error>>(())
     /// ```

@@ -1,7 +1,5 @@
 //! Records, and the hash.
-use std::borrow::Cow;
-
-use crate::{DeltaItems, NurseryDelta, Refusal, size, sys};
+use crate::{DeltaItems, Mode, NurseryDelta, Refusal, raw, size, sys};
 
 /// Bytes in a hash.
 pub const HASH_LEN: usize = 32;
@@ -20,6 +18,11 @@ pub fn hash(bytes: &[u8]) -> [u8; HASH_LEN] {
     hash
 }
 
+/// BLAKE3 of bytes under a key.
+pub fn keyed_hash(key: &[u8; 32], bytes: &[u8]) -> [u8; HASH_LEN] {
+    raw::keyed_hash(key, bytes).expect("a key of 32 bytes")
+}
+
 /// The figures of a record.
 #[derive(Debug, Clone, Copy, PartialEq, Eq, Default)]
 pub struct RecordStats {
@@ -36,7 +39,7 @@ pub struct RecordStats {
 }
 
 impl RecordStats {
-    fn of(figures: [u64; 5]) -> Self {
+    pub(crate) fn of(figures: [u64; 5]) -> Self {
         let [payload_bytes, metadata_bytes, cell_bytes, insert_ops, remove_ops] = figures;
         Self { payload_bytes, metadata_bytes, cell_bytes, insert_ops, remove_ops }
     }
@@ -72,38 +75,22 @@ impl EncodedRecord {
     }
 }
 
-/// The record of a delta. A cell or a list that is too long is refused.
-pub fn encode_record(id: u64, delta: &NurseryDelta) -> Result<EncodedRecord, Refusal> {
-    encoded(id, &delta.to_items()?)
+/// The record of a delta, hashed in a mode. A cell or a list that is too long is refused.
+pub fn encode_record(mode: &Mode, id: u64, delta: &NurseryDelta) -> Result<EncodedRecord, Refusal> {
+    encoded(mode, id, &delta.to_items()?)
 }
 
-pub(crate) fn encoded(id: u64, items: &DeltaItems<'_>) -> Result<EncodedRecord, Refusal> {
+pub(crate) fn encoded(mode: &Mode, id: u64, items: &DeltaItems<'_>) -> Result<EncodedRecord, Refusal> {
     let mut bytes = vec![0; PREFIX_LEN + COUNTS_LEN + items.bytes.len()];
-    let (len, stats) = encode_items(id, items, &mut bytes)?;
+    let (len, stats) = encode_items(mode, id, items, &mut bytes)?;
     bytes.truncate(len);
     Ok(EncodedRecord { id, bytes, stats })
 }
 
-/// The record of a delta that is at hand as bytes, into the front of `out`: its length and figures. Bytes after the last item are ignored, and
-/// not written.
-pub fn encode_items(id: u64, items: &DeltaItems<'_>, out: &mut [u8]) -> Result<(usize, RecordStats), Refusal> {
-    let mut figures = [0; 6];
-    // SAFETY: slices, and an array to write; none overlaps another.
-    Refusal::of(unsafe {
-        sys::selvaigo_encode_record(
-            id,
-            items.wide.into(),
-            items.inserts,
-            items.removes,
-            items.bytes.as_ptr(),
-            items.bytes.len(),
-            out.as_mut_ptr(),
-            out.len(),
-            &mut figures,
-        )
-    })?;
-    let [len, stats @ ..] = figures;
-    Ok((size(len), RecordStats::of(stats)))
+/// The record of a delta that is at hand as bytes, hashed in a mode, into the front of `out`: its length and figures. Bytes after the last item are
+/// ignored, and not written.
+pub fn encode_items(mode: &Mode, id: u64, items: &DeltaItems<'_>, out: &mut [u8]) -> Result<(usize, RecordStats), Refusal> {
+    raw::encode_items(mode.key(), id, items, out)
 }
 
 /// A record that was read.
@@ -131,16 +118,8 @@ impl DecodedRecord<'_> {
     }
 }
 
-/// The record that bytes start with, whatever follows it. One whose payload goes on after its last item is refused with [`Refusal::Leftover`]; what
-/// is taken is what [`encode_record`] writes, byte for byte.
-pub fn decode_record(bytes: &[u8]) -> Result<DecodedRecord<'_>, Refusal> {
-    let mut figures = [0; 8];
-    let mut hash = [0; HASH_LEN];
-    // SAFETY: a slice, and two arrays to write.
-    Refusal::of(unsafe { sys::selvaigo_decode_record(bytes.as_ptr(), bytes.len(), &mut figures, &mut hash) })?;
-    let [id, place, len, stats @ ..] = figures;
-    let stats = RecordStats::of(stats);
-    let items = &bytes[size(place)..][..size(len)];
-    let items = DeltaItems { wide: false, inserts: stats.insert_ops, removes: stats.remove_ops, bytes: Cow::Borrowed(items) };
-    Ok(DecodedRecord { id, hash, items, stats })
+/// The record that bytes start with, whatever follows it, where its hash is the one in a mode. One whose payload goes on after its last item is refused with
+/// [`Refusal::Leftover`]; what is taken is what [`encode_record`] writes in that mode, byte for byte.
+pub fn decode_record<'a>(mode: &Mode, bytes: &'a [u8]) -> Result<DecodedRecord<'a>, Refusal> {
+    raw::decode_record(mode.key(), bytes)
 }

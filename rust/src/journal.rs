@@ -2,7 +2,7 @@
 use std::error::Error;
 use std::fmt;
 
-use crate::{CellNursery, Refusal, raw, size, sys, taken};
+use crate::{CellNursery, Mode, Refusal, raw, size};
 
 /// How far the records of a journal are taken one after another, whatever their deltas are.
 #[derive(Debug, Clone, Copy, PartialEq, Eq)]
@@ -23,15 +23,14 @@ impl JournalScan {
     }
 }
 
-/// The records of a journal, up to its end or the first one that is refused. None is applied.
-pub fn scan_journal(journal: &[u8]) -> JournalScan {
-    let mut scan = [0; 3];
-    // SAFETY: a slice, and an array to write.
-    taken(unsafe { sys::selvaigo_scan_journal(journal.as_ptr(), journal.len(), &mut scan) });
-    JournalScan { records: scan[0], place: size(scan[1]), refusal: Refusal::ended(scan[2]) }
+/// The records of a journal, hashed in a mode, up to its end or the first one that is refused. None is applied.
+pub fn scan_journal(mode: &Mode, journal: &[u8]) -> JournalScan {
+    raw::scan_journal(mode.key(), journal).expect("a key of 32 bytes, or none")
 }
 
 /// A record of a journal that is refused and not cut: why the reading of the journal was refused, with [`Refusal::Damaged`].
+///
+/// A first record, at place 0, that is refused with [`Refusal::Mismatch`] may have no damage: so are those of a box with another key, or in another [`Mode`].
 #[derive(Debug, Clone, Copy, PartialEq, Eq)]
 pub struct DamagedRecord {
     /// How many records stand before it.
@@ -74,7 +73,7 @@ pub struct JournalEnd {
 /// Why a journal couldn't be read.
 #[derive(Debug, Clone, Copy, PartialEq, Eq)]
 pub enum JournalError {
-    /// The delay is outside its range: [`Refusal::BadSetting`]. Of the journal nothing is known.
+    /// The delay is outside its range: [`Refusal::BadSetting`]. It isn't the key, as a [`Mode`] has none that is refused. Of the journal nothing is known.
     Setting(Refusal),
     /// The record for which it is refused, with [`Refusal::Damaged`].
     Damaged(DamagedRecord),
@@ -115,22 +114,25 @@ impl fmt::Display for JournalError {
 
 impl Error for JournalError {}
 
-/// The nursery that a journal makes out of an empty one with room for so many entries and cell bytes and with a delay, and where its reading ended. A delay
-/// outside its range is refused, whatever the journal is. A damaged record, wherever it stands before the journal's end or the first cut, refuses the
-/// whole reading.
+/// The nursery that a journal, hashed in a mode, makes out of an empty one with room for so many entries and cell bytes and with a delay, and where its reading
+/// ended. A delay outside its range is refused, whatever the journal is. A damaged record, wherever it stands before the journal's end or the first cut, refuses
+/// the whole reading; a whole record of another key is one.
 ///
 /// # Panics
 ///
 /// Where the room is more than a slice can have.
 pub fn read_journal(
+    mode: &Mode,
     journal: &[u8],
     entries: usize,
     cell_bytes: usize,
     delay: u64,
 ) -> Result<(CellNursery, JournalEnd), JournalError> {
-    CellNursery::read(journal, entries, cell_bytes, delay).map_err(|refusal| match refusal {
+    CellNursery::read(mode, journal, entries, cell_bytes, delay).map_err(|refusal| match refusal {
         // The reading says that there is one, and a second scan which.
-        Refusal::Damaged => scan_journal(journal).damaged().expect("a damaged record, for which the reading was refused").into(),
+        Refusal::Damaged => {
+            scan_journal(mode, journal).damaged().expect("a damaged record, for which the reading was refused").into()
+        }
         setting => JournalError::Setting(setting),
     })
 }
@@ -171,16 +173,18 @@ const SHORTEST: usize = 57;
 ///
 /// Reading the new journal gives what reading the old one gave then. Converting it again changes nothing.
 ///
-/// ```
-/// use selvaigo::{Dropped, NurseryDelta, Refusal, convert_journal, encode_record, hash, scan_journal};
+/// It is always done in [`Mode::Unkeyed`]: records under a key are refused there with [`Refusal::Mismatch`], so a journal of them comes out as it was.
 ///
-/// let record = encode_record(7, &NurseryDelta::default())?;
+/// ```
+/// use selvaigo::{Dropped, Mode, NurseryDelta, Refusal, convert_journal, encode_record, hash, scan_journal};
+///
+/// let record = encode_record(&Mode::Unkeyed, 7, &NurseryDelta::default())?;
 /// // The same, with two bytes left over in its payload.
 /// let stated = [&18_u64.to_le_bytes(), &record.bytes()[40..], &[8, 9]].concat();
 /// let old = [&hash(&stated)[..], &stated].concat();
 ///
 /// let journal = [record.bytes(), &old].concat();
-/// assert_eq!(scan_journal(&journal).refusal, Some(Refusal::Leftover));
+/// assert_eq!(scan_journal(&Mode::Unkeyed, &journal).refusal, Some(Refusal::Leftover));
 /// let converted = convert_journal(&journal);
 /// assert_eq!(converted.journal, [record.bytes(), record.bytes()].concat());
 /// assert_eq!(converted.dropped, [Dropped { place: 112, count: 2 }]);

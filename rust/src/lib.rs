@@ -2,19 +2,19 @@
 //! writes and reads their snapshots, records and journals. The work is done by a library that is proved; this crate owns the tables that the library is lent, so
 //! that nothing else writes them, and says refusals as [`Refusal`].
 //!
-//! A [`NodeBox`] is [`Counters`] and a [`CellNursery`], in tables whose [`Room`] the caller chooses, with [`Settings`] that it keeps. A call is taken whole
-//! or refused whole.
+//! A [`NodeBox`] is [`Counters`] and a [`CellNursery`], in tables whose [`Room`] the caller chooses, with [`Settings`] and a [`Mode`] that it keeps. A call is
+//! taken whole or refused whole.
 //!
 //! ```
-//! use selvaigo::{CounterTransition, NextIdx, NodeBox, RefCount, Room, Settings};
+//! use selvaigo::{CounterTransition, Mode, NextIdx, NodeBox, RefCount, Room, Settings};
 //!
 //! let (room, settings) = (Room { counts: 1_024, entries: 256, cell_bytes: 16_384 }, Settings::default());
-//! let mut node = NodeBox::new(NextIdx::new(0), room, settings)?;
+//! let mut node = NodeBox::new(NextIdx::new(0), room, settings, Mode::Unkeyed)?;
 //! let idx = node.counters.alloc_idx()?;
 //! node.counters.apply_batch(&[CounterTransition { idx, old_raw: 0, new_raw: 3 }])?;
 //! assert_eq!(node.counters.get(idx)?, RefCount::new(3));
 //!
-//! let again = NodeBox::restore(&node.counters.serialize(), &[], room, settings)?;
+//! let again = NodeBox::restore(&node.counters.serialize(), &[], room, settings, Mode::Unkeyed)?;
 //! assert_eq!(again.node_box.counters.get(idx)?, RefCount::new(3));
 //! # Ok::<(), Box<dyn std::error::Error>>(())
 //! ```
@@ -30,6 +30,7 @@ mod cell_nursery;
 mod counters;
 mod format;
 mod journal;
+mod mode;
 mod node_box;
 pub mod raw;
 mod refusal;
@@ -41,10 +42,13 @@ pub use counters::{
     CounterBatch, CounterMaintenance, CounterTransition, Counters, Idx, Loaded, NextIdx, RefCount, Shrunk,
     adjust_shrink_threshold, should_shrink,
 };
-pub use format::{DecodedRecord, EncodedRecord, HASH_LEN, RecordStats, decode_record, encode_items, encode_record, hash};
+pub use format::{
+    DecodedRecord, EncodedRecord, HASH_LEN, RecordStats, decode_record, encode_items, encode_record, hash, keyed_hash,
+};
 pub use journal::{
     Converted, DamagedRecord, Dropped, JournalEnd, JournalError, JournalScan, convert_journal, read_journal, scan_journal,
 };
+pub use mode::Mode;
 pub use node_box::{NodeBox, RestoreError, Restored, Room};
 pub use refusal::Refusal;
 pub use settings::{Settings, ShrinkSettings};
@@ -59,7 +63,7 @@ fn size(number: u64) -> usize {
     usize::try_from(number).expect("a length in memory")
 }
 
-// The answer where nothing is left to refuse: of a call that scans a journal, or of a held call over tables that the port wrote.
+// The answer where nothing is left to refuse: of a held call over tables that the port wrote.
 fn taken(answer: u8) {
     if let Err(refusal) = Refusal::of(answer) {
         panic!("the port refused what it always takes: {refusal}");

@@ -4,7 +4,7 @@ use std::fmt;
 
 use crate::format::encoded;
 use crate::{
-    CellNursery, Counters, DamagedRecord, JournalEnd, JournalError, NextIdx, NurseryDelta, Refusal, Settings, read_journal,
+    CellNursery, Counters, DamagedRecord, JournalEnd, JournalError, Mode, NextIdx, NurseryDelta, Refusal, Settings, read_journal,
 };
 
 /// How much a box's tables have room for. It takes 16 bytes a count and 104 an entry, beside the cells.
@@ -25,6 +25,8 @@ pub struct NodeBox {
     pub counters: Counters,
     /// Young cells.
     pub nursery: CellNursery,
+    /// How its records are hashed: what it was made or read in with. Its journal is read with the same.
+    pub mode: Mode,
 }
 
 /// A box that was read in.
@@ -39,11 +41,12 @@ pub struct Restored {
 /// Why a box couldn't be read in.
 #[derive(Debug, Clone, Copy, PartialEq, Eq)]
 pub enum RestoreError {
-    /// One of its settings is outside its range: [`Refusal::BadSetting`]. Of snapshot and journal nothing is known.
+    /// One of its settings is outside its range: [`Refusal::BadSetting`]. It isn't the key, as a [`Mode`] has none that is refused. Of snapshot and journal nothing is
+    /// known.
     Setting(Refusal),
     /// What its snapshot is refused with.
     Snapshot(Refusal),
-    /// The record for which its journal is refused.
+    /// The record for which its journal is refused; or its first one, where the journal is of another key, as [`DamagedRecord`] says.
     Journal(DamagedRecord),
 }
 
@@ -103,33 +106,39 @@ impl Error for RestoreError {
 }
 
 impl NodeBox {
-    /// A fresh box: the next index as handed over, the rest empty. Only [`Refusal::BadSetting`] refuses it, and then nothing is made.
+    /// A fresh box: the next index as handed over, the rest empty. Only [`Refusal::BadSetting`] refuses it, for one of its settings, and then nothing is made.
     ///
     /// # Panics
     ///
     /// Where the room is more than slices can have.
-    pub fn new(next_idx: NextIdx, room: Room, settings: Settings) -> Result<Self, Refusal> {
+    pub fn new(next_idx: NextIdx, room: Room, settings: Settings, mode: Mode) -> Result<Self, Refusal> {
         // All four are judged before either half is made.
         settings.check()?;
         let counters = Counters::new(next_idx, room.counts, settings.shrink())?;
         let nursery = CellNursery::new(room.entries, room.cell_bytes, settings.delay)?;
-        Ok(Self { counters, nursery })
+        Ok(Self { counters, nursery, mode })
     }
 
-    /// A new box with the counters of a snapshot and the nursery of a journal, and with settings, of which these have none: to go on with a box they are
-    /// that box's. A setting outside its range is refused before either is looked at. A snapshot may be refused, and a journal with a damaged record; else
-    /// the journal is read up to its end, the first record that is cut, or the first delta that is refused: [`Restored::journal`] says which. A
+    /// A new box with the counters of a snapshot and the nursery of a journal, and with settings and a mode, of which these have none: to go on with a box they are
+    /// that box's. A setting outside its range is refused before either is looked at. A snapshot may be refused, and a journal with a damaged record or of another
+    /// key; else the journal is read up to its end, the first record that is cut, or the first delta that is refused: [`Restored::journal`] says which. A
     /// snapshot that is refused with [`Refusal::FewCells`] is to be loaded once by [`Counters::load_snapshot`] and serialized again.
     ///
     /// # Panics
     ///
     /// Where the room is more than slices can have.
-    pub fn restore(snapshot: &[u8], journal: &[u8], room: Room, settings: Settings) -> Result<Restored, RestoreError> {
+    pub fn restore(
+        snapshot: &[u8],
+        journal: &[u8],
+        room: Room,
+        settings: Settings,
+        mode: Mode,
+    ) -> Result<Restored, RestoreError> {
         // All four are judged before either half is read.
         settings.check()?;
         let counters = Counters::deserialize_trusted(snapshot, room.counts, settings.shrink())?;
-        let (nursery, journal) = read_journal(journal, room.entries, room.cell_bytes, settings.delay)?;
-        Ok(Restored { node_box: Self { counters, nursery }, journal })
+        let (nursery, journal) = read_journal(&mode, journal, room.entries, room.cell_bytes, settings.delay)?;
+        Ok(Restored { node_box: Self { counters, nursery, mode }, journal })
     }
 
     /// The settings of its two halves.
@@ -137,10 +146,10 @@ impl NodeBox {
         Settings::of(self.nursery.delay(), self.counters.settings())
     }
 
-    /// A delta, and its record at the end of the box's journal: where it is taken and has an insert or a remove. A refusal changes neither.
+    /// A delta, and its record, hashed in the box's mode, at the end of its journal: where it is taken and has an insert or a remove. A refusal changes neither.
     pub fn commit(&mut self, id: u64, delta: &NurseryDelta, journal: &mut Vec<u8>) -> Result<(), Refusal> {
         let items = delta.to_items()?;
-        let record = encoded(id, &items)?;
+        let record = encoded(&self.mode, id, &items)?;
         self.nursery.apply_items(&items)?;
         if !delta.is_empty() {
             journal.extend_from_slice(record.bytes());

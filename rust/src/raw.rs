@@ -1,11 +1,16 @@
 //! The calls over records and tables that the caller lends, of any content, and tables of any length: they are checked first, and what isn't in
 //! the layout of docs/LAYOUT.md is refused with [`Refusal::Broken`], as is a setting outside its range. The check is a pass over what is lent, and a
 //! look-up for each waiting row. The calls that make or read in write over what is lent, whatever it is; [`Refusal::BadSetting`] comes first, and leaves it.
+//!
+//! The calls that hash records are lent a key, of any length, or none: [`Mode::key`](crate::Mode::key) gives a mode's. A key that isn't of 32 bytes is refused with
+//! [`Refusal::BadSetting`], before anything else.
+use std::borrow::Cow;
 use std::ops::Range;
 
-// The first pass of a reading by itself, which is lent no table.
-pub use crate::journal::scan_journal;
-use crate::{DeltaItems, HashBytes, Idx, JournalEnd, NextIdx, RefCount, Refusal, ShrinkSettings, Shrunk, size, sys};
+use crate::{
+    DecodedRecord, DeltaItems, HASH_LEN, HashBytes, Idx, JournalEnd, JournalScan, NextIdx, RecordStats, RefCount, Refusal,
+    ShrinkSettings, Shrunk, size, sys,
+};
 
 // SAFETY, of every call below: pointers and lengths are those of slices and arrays that are borrowed for the call, and what is borrowed to be
 // written overlaps nothing. The checked calls ask no more.
@@ -239,9 +244,80 @@ pub fn snapshot_entries(nursery: &[u64; sys::NURSERY], entries: &[u64], cells: &
     Ok(size(len[0]))
 }
 
+// Mode and key as the C calls are given them. In hash mode they look at no byte of a key.
+fn keyed(key: Option<&[u8]>) -> (u8, &[u8]) {
+    (key.is_some().into(), key.unwrap_or_default())
+}
+
+/// BLAKE3 of bytes under a key. Only [`Refusal::BadSetting`] refuses it.
+pub fn keyed_hash(key: &[u8], bytes: &[u8]) -> Result<[u8; HASH_LEN], Refusal> {
+    let mut hash = [0; HASH_LEN];
+    // SAFETY: slices and arrays, see above.
+    Refusal::of(unsafe { sys::selvaigo_keyed_hash(key.as_ptr(), key.len(), bytes.as_ptr(), bytes.len(), &mut hash) })?;
+    Ok(hash)
+}
+
+/// The record of a delta into the front of `out`, as [`crate::encode_items`] says: its length and figures.
+pub fn encode_items(
+    key: Option<&[u8]>,
+    id: u64,
+    items: &DeltaItems<'_>,
+    out: &mut [u8],
+) -> Result<(usize, RecordStats), Refusal> {
+    let (keyed, key) = keyed(key);
+    let mut figures = [0; 6];
+    // SAFETY: slices and arrays, see above.
+    Refusal::of(unsafe {
+        sys::selvaigo_encode_record(
+            keyed,
+            key.as_ptr(),
+            key.len(),
+            id,
+            items.wide.into(),
+            items.inserts,
+            items.removes,
+            items.bytes.as_ptr(),
+            items.bytes.len(),
+            out.as_mut_ptr(),
+            out.len(),
+            &mut figures,
+        )
+    })?;
+    let [len, stats @ ..] = figures;
+    Ok((size(len), RecordStats::of(stats)))
+}
+
+/// The record that bytes start with, as [`crate::decode_record`] says.
+pub fn decode_record<'a>(key: Option<&[u8]>, bytes: &'a [u8]) -> Result<DecodedRecord<'a>, Refusal> {
+    let (keyed, key) = keyed(key);
+    let (mut figures, mut hash) = ([0; 8], [0; HASH_LEN]);
+    // SAFETY: slices and arrays, see above.
+    Refusal::of(unsafe {
+        sys::selvaigo_decode_record(keyed, key.as_ptr(), key.len(), bytes.as_ptr(), bytes.len(), &mut figures, &mut hash)
+    })?;
+    let [id, place, len, stats @ ..] = figures;
+    let stats = RecordStats::of(stats);
+    let items = &bytes[size(place)..][..size(len)];
+    let items = DeltaItems { wide: false, inserts: stats.insert_ops, removes: stats.remove_ops, bytes: Cow::Borrowed(items) };
+    Ok(DecodedRecord { id, hash, items, stats })
+}
+
+/// The records of a journal, up to its end or the first one that is refused: the first pass of a reading by itself, which is lent no table. Only
+/// [`Refusal::BadSetting`] refuses it.
+pub fn scan_journal(key: Option<&[u8]>, journal: &[u8]) -> Result<JournalScan, Refusal> {
+    let (keyed, key) = keyed(key);
+    let mut scan = [0; 3];
+    // SAFETY: slices and arrays, see above.
+    Refusal::of(unsafe {
+        sys::selvaigo_scan_journal(keyed, key.as_ptr(), key.len(), journal.as_ptr(), journal.len(), &mut scan)
+    })?;
+    Ok(JournalScan { records: scan[0], place: size(scan[1]), refusal: Refusal::ended(scan[2]) })
+}
+
 /// A journal, read into an empty nursery with a delay, in a record and tables of any content. Two refusals leave these as they were:
-/// [`Refusal::BadSetting`], whatever the journal is, and then [`Refusal::Damaged`]; [`scan_journal`] says where the damage is.
+/// [`Refusal::BadSetting`], of key or delay, whatever the journal is, and then [`Refusal::Damaged`]; [`scan_journal`] says where the damage is.
 pub fn read_journal(
+    key: Option<&[u8]>,
     journal: &[u8],
     delay: u64,
     nursery: &mut [u64; sys::NURSERY],
@@ -249,10 +325,14 @@ pub fn read_journal(
     waiting: &mut [u64],
     cells: &mut [u8],
 ) -> Result<JournalEnd, Refusal> {
+    let (keyed, key) = keyed(key);
     let mut read = [0; 3];
     // SAFETY: slices and arrays, see above.
     Refusal::of(unsafe {
         sys::selvaigo_read_journal(
+            keyed,
+            key.as_ptr(),
+            key.len(),
             journal.as_ptr(),
             journal.len(),
             delay,

@@ -68,7 +68,7 @@ refusals! {
     ShortRecord = 16, "short record";
     /// A stated length is at or above 2^64 - 8.
     FarLength = 17, "far length";
-    /// The hash of a record is wrong.
+    /// The hash of a record isn't the one in the mode and under the key given.
     Mismatch = 18, "mismatch";
     /// A stated length is under 16, or the items run past it.
     Misfit = 19, "misfit";
@@ -78,7 +78,8 @@ refusals! {
     Damaged = 21, "damaged";
     /// Bytes of a record's payload are left over after its last item. It comes after the refusals 16 to 19.
     Leftover = 22, "leftover";
-    /// A setting is outside its range. It comes before all others, where a box is made or read in; of a record that is lent it is [`Refusal::Broken`].
+    /// A setting is outside its range, where a box is made or read in; of a record that is lent it is [`Refusal::Broken`]. Or a key isn't of 32 bytes, which only the
+    /// calls of [`raw`](crate::raw) can be given. It comes before all others.
     BadSetting = 23, "bad setting";
     /// Fewer cells than counts: the stored counts after the call exceed the live total. It comes last, of a batch and of a snapshot.
     FewCells = 25, "few cells";

@@ -6,14 +6,14 @@ use crate::{NextIdx, Refusal, raw, sys};
 /// The standard ones are the default.
 ///
 /// ```
-/// use selvaigo::{NextIdx, NodeBox, Refusal, Room, Settings};
+/// use selvaigo::{Mode, NextIdx, NodeBox, Refusal, Room, Settings};
 ///
 /// let room = Room { counts: 1_024, entries: 256, cell_bytes: 16_384 };
 /// let slow = Settings { delay: 2_500, ..Settings::default() };
-/// assert_eq!(NodeBox::new(NextIdx::new(0), room, slow)?.settings(), slow);
+/// assert_eq!(NodeBox::new(NextIdx::new(0), room, slow, Mode::Unkeyed)?.settings(), slow);
 ///
 /// let never = Settings { delay: 10_001, ..slow };
-/// assert_eq!(NodeBox::new(NextIdx::new(0), room, never).unwrap_err(), Refusal::BadSetting);
+/// assert_eq!(NodeBox::new(NextIdx::new(0), room, never, Mode::Unkeyed).unwrap_err(), Refusal::BadSetting);
 /// # Ok::<(), Refusal>(())
 /// ```
 #[derive(Debug, Clone, Copy, PartialEq, Eq)]

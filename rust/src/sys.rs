@@ -268,8 +268,13 @@ unsafe extern "C" {
     ) -> u8;
     /// BLAKE3 of bytes.
     pub fn selvaigo_hash(bytes: *const u8, bytes_len: usize, hash: *mut [u8; 32]);
+    /// BLAKE3 of bytes under a key.
+    pub fn selvaigo_keyed_hash(key: *const u8, key_len: usize, bytes: *const u8, bytes_len: usize, hash: *mut [u8; 32]) -> u8;
     /// The record of a delta.
     pub fn selvaigo_encode_record(
+        keyed: u8,
+        key: *const u8,
+        key_len: usize,
         id: u64,
         wide: u8,
         inserts: u64,
@@ -281,11 +286,29 @@ unsafe extern "C" {
         figures: *mut [u64; 6],
     ) -> u8;
     /// The record that bytes start with.
-    pub fn selvaigo_decode_record(bytes: *const u8, bytes_len: usize, figures: *mut [u64; 8], hash: *mut [u8; 32]) -> u8;
+    pub fn selvaigo_decode_record(
+        keyed: u8,
+        key: *const u8,
+        key_len: usize,
+        bytes: *const u8,
+        bytes_len: usize,
+        figures: *mut [u64; 8],
+        hash: *mut [u8; 32],
+    ) -> u8;
     /// The records of a journal, applied to nothing.
-    pub fn selvaigo_scan_journal(journal: *const u8, journal_len: usize, scan: *mut [u64; 3]) -> u8;
+    pub fn selvaigo_scan_journal(
+        keyed: u8,
+        key: *const u8,
+        key_len: usize,
+        journal: *const u8,
+        journal_len: usize,
+        scan: *mut [u64; 3],
+    ) -> u8;
     /// A journal, read into an empty nursery in tables of any content.
     pub fn selvaigo_read_journal(
+        keyed: u8,
+        key: *const u8,
+        key_len: usize,
         journal: *const u8,
         journal_len: usize,
         delay: u64,

@@ -5,14 +5,14 @@ use std::os::unix::process::ExitStatusExt;
 use std::path::{Path, PathBuf};
 use std::process::{Command, Output};
 
-use selvaigo::{convert_journal, encode_record, hash, scan_journal};
+use selvaigo::{Mode, convert_journal, encode_record, hash, scan_journal};
 
 mod worked;
-use worked::{remove, three};
+use worked::{remove, three, three_in};
 
 // A record with three bytes after its last item.
 fn old_record() -> Vec<u8> {
-    let taken = encode_record(7, &remove(5)).unwrap().bytes().to_vec();
+    let taken = encode_record(&Mode::Unkeyed, 7, &remove(5)).unwrap().bytes().to_vec();
     let stated = [&51_u64.to_le_bytes(), &taken[40..], &[7, 8, 9]].concat();
     [&hash(&stated)[..], &stated].concat()
 }
@@ -119,7 +119,8 @@ fn a_file_without_leftovers() {
     let whole = three().concat();
     let mut damaged = whole.clone();
     damaged[150] ^= 1;
-    let cases: [(&[u8], &str); 4] = [
+    let keyed = three_in(&Mode::Keyed([7; 32])).concat();
+    let cases: [(&[u8], &str); 5] = [
         (&whole, "295 bytes\nrecords: 3, up to byte 295 (295 before), the journal's end (0)\n"),
         (&whole[..200], "200 bytes\nrecords: 1, up to byte 104 (104 before), then one that is cut (16), the last 96 bytes\n"),
         (
@@ -127,6 +128,7 @@ fn a_file_without_leftovers() {
             "295 bytes\nrecords: 1, up to byte 104 (104 before), then one that is damaged, mismatch (18), the last 191 bytes\n",
         ),
         (&[], "0 bytes\nrecords: 0, up to byte 0 (0 before), the journal's end (0)\n"),
+        (&keyed, "295 bytes\nrecords: 0, up to byte 0 (0 before), then one that is damaged, mismatch (18), the last 295 bytes\n"),
     ];
     for (journal, end) in cases {
         let folder = Folder::new("without_leftovers", journal);
@@ -233,7 +235,7 @@ fn a_crash_while_the_new_file_is_written() {
     // The next run takes the old journal once more.
     says(&[&folder.journal()]);
     assert_eq!(folder.alone(), new);
-    assert_eq!(scan_journal(&new).records, 100);
+    assert_eq!(scan_journal(&Mode::Unkeyed, &new).records, 100);
 }
 
 #[test]

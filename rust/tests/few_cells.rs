@@ -3,7 +3,8 @@
 use std::collections::{BTreeMap, BTreeSet};
 
 use selvaigo::{
-    CounterTransition, Counters, Idx, NextIdx, NodeBox, RefCount, Refusal, RestoreError, Room, Settings, ShrinkSettings, raw, sys,
+    CounterTransition, Counters, Idx, Mode, NextIdx, NodeBox, RefCount, Refusal, RestoreError, Room, Settings, ShrinkSettings,
+    raw, sys,
 };
 
 const NEXT: u64 = 24;
@@ -312,7 +313,7 @@ fn a_total_that_is_enough_stays() {
 fn loaded_once_and_read_from_then_on() {
     let room = Room { counts: 4, entries: 0, cell_bytes: 0 };
     let old = snapshot(9, 1, &[(0, 5), (2, 17)], &[(3, 300)]);
-    let refused = NodeBox::restore(&old, &[], room, Settings::STANDARD).unwrap_err();
+    let refused = NodeBox::restore(&old, &[], room, Settings::STANDARD, Mode::Unkeyed).unwrap_err();
     assert_eq!((refused, refused.number()), (RestoreError::Snapshot(Refusal::FewCells), 25));
     assert_eq!(refused.to_string(), "snapshot refused with 25");
     let loaded = Counters::load_snapshot(&old, room.counts, SETTINGS).unwrap();
@@ -320,7 +321,7 @@ fn loaded_once_and_read_from_then_on() {
     // The new snapshot is the old one but for its total.
     let new = loaded.counters.serialize();
     assert_eq!(new, snapshot(9, 3, &[(0, 5), (2, 17)], &[(3, 300)]));
-    let mut c = NodeBox::restore(&new, &[], room, Settings::STANDARD).unwrap().node_box.counters;
+    let mut c = NodeBox::restore(&new, &[], room, Settings::STANDARD, Mode::Unkeyed).unwrap().node_box.counters;
     assert_eq!((c.state(), c.counts()), (loaded.counters.state(), loaded.counters.counts()));
     assert_eq!((c.get(Idx::new(2)), c.next_idx()), (Ok(RefCount::new(17)), NextIdx::new(9)));
     let again = Counters::load_snapshot(&new, room.counts, SETTINGS).unwrap();

@@ -4,8 +4,8 @@ use std::collections::BTreeMap;
 use std::error::Error;
 
 use selvaigo::{
-    CellNursery, Counters, DamagedRecord, HashBytes, JournalError, NextIdx, NodeBox, NurseryParts, Refusal, RestoreError, Room,
-    Settings, raw, read_journal, scan_journal, sys,
+    CellNursery, Counters, DamagedRecord, HashBytes, JournalError, Mode, NextIdx, NodeBox, NurseryParts, Refusal, RestoreError,
+    Room, Settings, raw, read_journal, scan_journal, sys,
 };
 
 mod plain;
@@ -28,8 +28,8 @@ fn nines(entries: usize, cell_bytes: usize) -> NurseryParts {
 // The reading, over such tables and into new ones, which agree.
 fn read(journal: &[u8], entries: usize, cell_bytes: usize) -> Reading {
     let mut p = nines(entries, cell_bytes);
-    let lent = raw::read_journal(journal, SETTINGS.delay, &mut p.nursery, &mut p.entries, &mut p.waiting, &mut p.cells);
-    let owned = read_journal(journal, entries, cell_bytes, SETTINGS.delay);
+    let lent = raw::read_journal(None, journal, SETTINGS.delay, &mut p.nursery, &mut p.entries, &mut p.waiting, &mut p.cells);
+    let owned = read_journal(&Mode::Unkeyed, journal, entries, cell_bytes, SETTINGS.delay);
     match (lent, owned) {
         (Ok(end), Ok((nursery, same))) => {
             assert_eq!((end, &p), (same, &nursery.into_parts()));
@@ -46,7 +46,7 @@ fn read(journal: &[u8], entries: usize, cell_bytes: usize) -> Reading {
 // Scan and reading as defined; the reading.
 fn as_defined(journal: &[u8], entries: usize, cell_bytes: usize) -> Reading {
     let (scan, reading) = defined(decode, journal, entries, cell_bytes);
-    assert_eq!(scan_journal(journal), scan);
+    assert_eq!(scan_journal(&Mode::Unkeyed, journal), scan);
     assert_eq!(scan.damaged(), reading.as_ref().err().copied());
     assert_eq!(read(journal, entries, cell_bytes), reading);
     reading
@@ -64,7 +64,7 @@ fn damaged(journal: &[u8], records: u64, place: usize, refusal: Refusal, text: &
     let damaged = as_defined(journal, 3, 9).unwrap_err();
     assert_eq!(damaged, DamagedRecord { records, place, refusal });
     assert_eq!((damaged.number(), damaged.to_string().as_str()), (21, text));
-    let scan = scan_journal(&journal[..place]);
+    let scan = scan_journal(&Mode::Unkeyed, &journal[..place]);
     assert_eq!((scan.records, scan.place, scan.refusal), (records, place, None));
 }
 
@@ -126,14 +126,14 @@ fn a_damaged_journal_restores_no_box() {
     let room = Room { counts: 1, entries: 3, cell_bytes: 9 };
     let snapshot = Counters::new(NextIdx::new(0), 1, SETTINGS.shrink()).unwrap().serialize();
     let mut journal = three().concat();
-    assert_eq!(NodeBox::restore(&snapshot, &journal, room, SETTINGS).unwrap().journal.applied, 3);
+    assert_eq!(NodeBox::restore(&snapshot, &journal, room, SETTINGS, Mode::Unkeyed).unwrap().journal.applied, 3);
     journal[150] ^= 1;
-    let error = NodeBox::restore(&snapshot, &journal, room, SETTINGS).unwrap_err();
+    let error = NodeBox::restore(&snapshot, &journal, room, SETTINGS, Mode::Unkeyed).unwrap_err();
     let damage = DamagedRecord { records: 1, place: 104, refusal: Refusal::Mismatch };
     assert_eq!((error, error.number()), (RestoreError::from(damage), 21));
     assert_eq!(error.to_string(), "journal refused with 21 at byte 104");
     assert_eq!(error.source().unwrap().to_string(), damage.to_string());
-    let error = NodeBox::restore(&[], &journal, room, SETTINGS).unwrap_err();
+    let error = NodeBox::restore(&[], &journal, room, SETTINGS, Mode::Unkeyed).unwrap_err();
     assert_eq!((error, error.number()), (RestoreError::from(Refusal::TornSnapshot), 8));
     assert_eq!(error.to_string(), "snapshot refused with 8");
     assert_eq!(error.source().unwrap().to_string(), "torn snapshot");

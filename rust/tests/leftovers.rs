@@ -1,8 +1,8 @@
 //! Records whose payload goes on after the last item, and journals that are converted (document 02, P4): the worked ones, every cut and every changed
 //! bit of one, and journals made up at random, beside a plain conversion and the plain reading.
 use selvaigo::{
-    CellNursery, Converted, DamagedRecord, Dropped, HashBytes, Idx, JournalEnd, JournalScan, NurseryDelta, NurseryEntryRecord,
-    Refusal, Settings, convert_journal, decode_record, encode_record, hash, raw, scan_journal,
+    CellNursery, Converted, DamagedRecord, Dropped, HashBytes, Idx, JournalEnd, JournalScan, Mode, NurseryDelta,
+    NurseryEntryRecord, Refusal, Settings, convert_journal, decode_record, encode_record, hash, raw, scan_journal,
 };
 
 mod plain;
@@ -21,7 +21,7 @@ fn record(payload: &[u8]) -> Vec<u8> {
 }
 
 fn encoded(id: u64, delta: &NurseryDelta) -> Vec<u8> {
-    encode_record(id, delta).unwrap().bytes().to_vec()
+    encode_record(&Mode::Unkeyed, id, delta).unwrap().bytes().to_vec()
 }
 
 // A record with more bytes in its payload, after all that is there.
@@ -30,12 +30,13 @@ fn with(taken: &[u8], leftovers: &[u8]) -> Vec<u8> {
 }
 
 fn refused(bytes: &[u8]) -> u8 {
-    decode_record(bytes).map_or_else(Refusal::number, |_| 0)
+    decode_record(&Mode::Unkeyed, bytes).map_or_else(Refusal::number, |_| 0)
 }
 
 // The reading with the standard delay.
 fn read_journal(journal: &[u8], entries: usize, cell_bytes: usize) -> Result<(CellNursery, JournalEnd), DamagedRecord> {
-    selvaigo::read_journal(journal, entries, cell_bytes, Settings::STANDARD.delay).map_err(|error| error.damaged().unwrap())
+    selvaigo::read_journal(&Mode::Unkeyed, journal, entries, cell_bytes, Settings::STANDARD.delay)
+        .map_err(|error| error.damaged().unwrap())
 }
 
 // ---- the definition
@@ -108,11 +109,11 @@ fn as_defined(journal: &[u8], entries: usize, cell_bytes: usize) -> Converted {
     // Again: a second conversion changes nothing.
     assert_eq!(convert_journal(&new.journal), Converted { journal: new.journal.clone(), dropped: vec![] });
     // Clean: no record that is reached has leftovers, and each that is taken is the one that encoding writes.
-    let scan = scan_journal(&new.journal);
+    let scan = scan_journal(&Mode::Unkeyed, &new.journal);
     assert_ne!(scan.refusal, Some(Refusal::Leftover));
     let mut place = 0;
     while place < scan.place {
-        let taken = decode_record(&new.journal[place..]).unwrap();
+        let taken = decode_record(&Mode::Unkeyed, &new.journal[place..]).unwrap();
         assert_eq!(encoded(taken.id, &taken.delta()), new.journal[place..][..taken.record_len()]);
         place += taken.record_len();
     }
@@ -123,7 +124,7 @@ fn as_defined(journal: &[u8], entries: usize, cell_bytes: usize) -> Converted {
     let read = read_journal(&new.journal, entries, cell_bytes).map(|(nursery, end)| (nursery.snapshot_entries(), end));
     assert_eq!(read, moved.reading(reading));
     // Of the old journal the scan is that of the rule now.
-    assert_eq!(scan_journal(journal), defined(decode, journal, entries, cell_bytes).0);
+    assert_eq!(scan_journal(&Mode::Unkeyed, journal), defined(decode, journal, entries, cell_bytes).0);
     new
 }
 
@@ -178,7 +179,7 @@ fn a_journal_of_three() {
     assert_eq!((old.len(), new.len()), (283, 280));
     let damaged = DamagedRecord { records: 1, place: 104, refusal: Refusal::Leftover };
     assert_eq!(read_journal(&old, 3, 9).unwrap_err(), damaged);
-    assert_eq!((damaged.number(), scan_journal(&old).damaged()), (21, Some(damaged)));
+    assert_eq!((damaged.number(), scan_journal(&Mode::Unkeyed, &old).damaged()), (21, Some(damaged)));
     assert_eq!(damaged.to_string(), "damaged record at byte 104 of the journal, behind 1 record: leftover");
 
     assert_eq!(as_defined(&old, 3, 9), Converted { journal: new.clone(), dropped: vec![Dropped { place: 192, count: 3 }] });
@@ -206,7 +207,7 @@ fn what_stands_behind_the_first_refused_record_stays() {
         let new = as_defined(&journal, 3, 9);
         assert_eq!(new.journal, [&seven(&[])[..], bad, &old].concat());
         assert_eq!(new.dropped, [Dropped { place: 88, count: 3 }]);
-        assert_eq!(scan_journal(&new.journal).refusal.unwrap().number(), number);
+        assert_eq!(scan_journal(&Mode::Unkeyed, &new.journal).refusal.unwrap().number(), number);
     }
     // A cut inside the leftovers is a cut.
     let journal = [&third[..], &old[..90]].concat();

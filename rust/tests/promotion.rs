@@ -1,6 +1,6 @@
 //! Each entry is handed out exactly once (document 02, P12): the worked lines, and boxes of calls made up at random that are read in again now and then.
 use selvaigo::{
-    CellNursery, HashBytes, Idx, NextIdx, NodeBox, NurseryDelta, NurseryEntryRecord, PromotedCell, Refusal, Room, Settings,
+    CellNursery, HashBytes, Idx, Mode, NextIdx, NodeBox, NurseryDelta, NurseryEntryRecord, PromotedCell, Refusal, Room, Settings,
 };
 
 const LAST: u32 = u32::MAX;
@@ -148,14 +148,16 @@ impl Followed {
 
     /// A box that is read in has every entry wait.
     fn read_in(&mut self) {
-        self.node = NodeBox::restore(&self.node.counters.serialize(), &self.journal, ROOM, SETTINGS).unwrap().node_box;
+        self.node =
+            NodeBox::restore(&self.node.counters.serialize(), &self.journal, ROOM, SETTINGS, Mode::Unkeyed).unwrap().node_box;
         self.live.iter_mut().for_each(|(_, out)| *out = false);
     }
 }
 
 #[test]
 fn over_calls_made_up_at_random() {
-    let mut f = Followed { node: NodeBox::new(NextIdx::new(0), ROOM, SETTINGS).unwrap(), journal: vec![], live: vec![] };
+    let mut f =
+        Followed { node: NodeBox::new(NextIdx::new(0), ROOM, SETTINGS, Mode::Unkeyed).unwrap(), journal: vec![], live: vec![] };
     let mut n = Numbers(3);
     let (mut handed, mut short, mut refused, mut read) = (0, 0, 0, 0);
     for id in 0..40_000 {

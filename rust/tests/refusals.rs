@@ -2,7 +2,7 @@
 use std::borrow::Cow;
 
 use selvaigo::{
-    CellNursery, CounterTransition, Counters, DeltaItems, HashBytes, Idx, JournalError, NextIdx, NodeBox, NurseryDelta,
+    CellNursery, CounterTransition, Counters, DeltaItems, HashBytes, Idx, JournalError, Mode, NextIdx, NodeBox, NurseryDelta,
     NurseryEntryRecord, NurseryParts, RefCount, Refusal, RestoreError, Room, Settings, ShrinkSettings, decode_record,
     encode_items, encode_record, hash, raw, read_journal, sys,
 };
@@ -119,14 +119,14 @@ fn the_nursery_twelve_to_fifteen() {
     assert_eq!(n.into_parts(), before);
     assert_eq!(counters(1).serialize_into(&mut [0; 166]).unwrap_err().number(), 15);
     let mut out = [7; 55];
-    assert_eq!(encode_items(0, &DeltaItems::borrowed(0, 0, &[]), &mut out).unwrap_err().number(), 15);
+    assert_eq!(encode_items(&Mode::Unkeyed, 0, &DeltaItems::borrowed(0, 0, &[]), &mut out).unwrap_err().number(), 15);
     assert_eq!(out, [7; 55]);
-    assert_eq!(encode_record(0, &insert(2, vec![0; 65_536])).unwrap_err().number(), 14);
+    assert_eq!(encode_record(&Mode::Unkeyed, 0, &insert(2, vec![0; 65_536])).unwrap_err().number(), 14);
 }
 
 #[test]
 fn records_sixteen_to_nineteen() {
-    let number = |bytes: &[u8]| decode_record(bytes).unwrap_err().number();
+    let number = |bytes: &[u8]| decode_record(&Mode::Unkeyed, bytes).unwrap_err().number();
     assert_eq!(number(&[0; 39]), 16);
     assert_eq!(number(&record(17, &[0; 16])), 16);
     assert_eq!(number(&record(u64::MAX - 7, &[])), 17);
@@ -139,7 +139,7 @@ fn records_sixteen_to_nineteen() {
 
 #[test]
 fn records_twenty_two() {
-    let number = |bytes: &[u8]| decode_record(bytes).unwrap_err().number();
+    let number = |bytes: &[u8]| decode_record(&Mode::Unkeyed, bytes).unwrap_err().number();
     assert_eq!(number(&record(17, &[0; 17])), 22);
     assert_eq!(number(&record(48, &[0; 48])), 22);
     // After all others.
@@ -151,8 +151,8 @@ fn records_twenty_two() {
     // What a call is lent may go on after its items.
     let items = DeltaItems::borrowed(0, 1, &[1; 33]);
     let mut out = [7; 89];
-    let (len, _) = encode_items(0, &items, &mut out).unwrap();
-    assert_eq!((len, out[88], decode_record(&out).unwrap().items.bytes.len()), (88, 7, 32));
+    let (len, _) = encode_items(&Mode::Unkeyed, 0, &items, &mut out).unwrap();
+    assert_eq!((len, out[88], decode_record(&Mode::Unkeyed, &out).unwrap().items.bytes.len()), (88, 7, 32));
     assert_eq!(CellNursery::new(0, 0, DELAY).unwrap().apply_items(&items), Ok(()));
 }
 
@@ -163,17 +163,17 @@ fn journals_twenty_one() {
     wrong[0] ^= 1;
     let bad = [(wrong, 18), (record(u64::MAX - 7, &[]), 17), (record(15, &[0; 15]), 19), (record(17, &[0; 17]), 22)];
     for (bad, number) in bad {
-        let first = encode_record(0, &insert(1, vec![1])).unwrap();
+        let first = encode_record(&Mode::Unkeyed, 0, &insert(1, vec![1])).unwrap();
         let journal = [first.bytes(), &bad].concat();
-        let error = read_journal(&journal, 1, 1, DELAY).unwrap_err();
+        let error = read_journal(&Mode::Unkeyed, &journal, 1, 1, DELAY).unwrap_err();
         let damaged = error.damaged().unwrap();
         assert_eq!((error, error.number()), (JournalError::Damaged(damaged), 21));
         assert_eq!((damaged.number(), damaged.refusal.number()), (21, number));
         assert_eq!((damaged.records, damaged.place), (1, first.bytes().len()));
-        let restored = NodeBox::restore(&counters(1).serialize(), &journal, ROOM, SETTINGS).unwrap_err();
+        let restored = NodeBox::restore(&counters(1).serialize(), &journal, ROOM, SETTINGS, Mode::Unkeyed).unwrap_err();
         assert_eq!((restored, restored.number()), (RestoreError::Journal(damaged), 21));
     }
-    let restored = NodeBox::restore(&[], &[0; 40], ROOM, SETTINGS).unwrap_err();
+    let restored = NodeBox::restore(&[], &[0; 40], ROOM, SETTINGS, Mode::Unkeyed).unwrap_err();
     assert_eq!((restored, restored.number()), (RestoreError::Snapshot(Refusal::TornSnapshot), 8));
 }
 
@@ -181,9 +181,9 @@ fn journals_twenty_one() {
 fn settings_twenty_three() {
     let (none, long) = (Settings { shrink_base: 0, ..SETTINGS }, Settings { delay: 10_001, ..SETTINGS });
     for bad in [none, long] {
-        assert_eq!(NodeBox::new(NextIdx::new(0), ROOM, bad).unwrap_err().number(), 23);
+        assert_eq!(NodeBox::new(NextIdx::new(0), ROOM, bad, Mode::Unkeyed).unwrap_err().number(), 23);
         // Before a snapshot and a journal that are refused too.
-        let restored = NodeBox::restore(&[], &record(15, &[0; 15]), ROOM, bad).unwrap_err();
+        let restored = NodeBox::restore(&[], &record(15, &[0; 15]), ROOM, bad, Mode::Unkeyed).unwrap_err();
         assert_eq!((restored, restored.number()), (RestoreError::Setting(Refusal::BadSetting), 23));
     }
     assert_eq!(Counters::new(NextIdx::new(0), 1, none.shrink()).unwrap_err().number(), 23);
@@ -260,8 +260,8 @@ fn made_and_read_in_over_anything() {
     raw::nursery_new(DELAY, &mut p.nursery, &mut p.entries, &mut p.waiting, &mut p.cells).unwrap();
     assert!(CellNursery::from_parts(p).unwrap().is_empty());
     let mut p = other;
-    let journal = [encode_record(0, &insert(1, vec![1])).unwrap().bytes(), &[0; 39]].concat();
-    let end = raw::read_journal(&journal, DELAY, &mut p.nursery, &mut p.entries, &mut p.waiting, &mut p.cells).unwrap();
+    let journal = [encode_record(&Mode::Unkeyed, 0, &insert(1, vec![1])).unwrap().bytes(), &[0; 39]].concat();
+    let end = raw::read_journal(None, &journal, DELAY, &mut p.nursery, &mut p.entries, &mut p.waiting, &mut p.cells).unwrap();
     assert_eq!((end.applied, end.refusal.map(Refusal::number)), (1, Some(16)));
     assert_eq!(CellNursery::from_parts(p).unwrap().len(), 1);
 }
@@ -275,7 +275,7 @@ fn values_beside_a_refusal_are_zeros() {
     assert_eq!((answer, count), (2, [0]));
     let (mut figures, mut hash) = ([9; 8], [9; 32]);
     // SAFETY: a slice and arrays.
-    let answer = unsafe { sys::selvaigo_decode_record([0; 39].as_ptr(), 39, &mut figures, &mut hash) };
+    let answer = unsafe { sys::selvaigo_decode_record(0, [].as_ptr(), 0, [0; 39].as_ptr(), 39, &mut figures, &mut hash) };
     assert_eq!((answer, figures, hash), (16, [0; 8], [0; 32]));
     // A record that would be taken, and a damaged one.
     let journal = [record(16, &[0; 16]), record(15, &[0; 15])].concat();
@@ -284,6 +284,9 @@ fn values_beside_a_refusal_are_zeros() {
     // SAFETY: slices and arrays.
     let answer = unsafe {
         sys::selvaigo_read_journal(
+            0,
+            [].as_ptr(),
+            0,
             journal.as_ptr(),
             journal.len(),
             DELAY,

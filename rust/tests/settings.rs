@@ -4,7 +4,7 @@ use std::collections::BTreeMap;
 use std::error::Error;
 
 use selvaigo::{
-    CellNursery, CounterTransition, Counters, DeltaItems, HashBytes, Idx, JournalError, NextIdx, NodeBox, NurseryDelta,
+    CellNursery, CounterTransition, Counters, DeltaItems, HashBytes, Idx, JournalError, Mode, NextIdx, NodeBox, NurseryDelta,
     NurseryEntryRecord, NurseryParts, PromotedCell, Refusal, RestoreError, Room, Settings, ShrinkSettings,
     adjust_shrink_threshold, encode_record, raw, read_journal, scan_journal, should_shrink, sys,
 };
@@ -147,6 +147,9 @@ fn read(journal: &[u8], delay: u64) -> (u8, [u64; 3]) {
     // SAFETY: slices and arrays, none of which overlaps another.
     let answer = unsafe {
         sys::selvaigo_read_journal(
+            0,
+            [].as_ptr(),
+            0,
             journal.as_ptr(),
             journal.len(),
             delay,
@@ -169,11 +172,13 @@ fn delay_judged(delay: u64) -> u8 {
     let journal = three().concat();
     let words = [
         nursery_over_junk(|p| raw::nursery_new(delay, &mut p.nursery, &mut p.entries, &mut p.waiting, &mut p.cells)),
-        nursery_over_junk(|p| raw::read_journal(&journal, delay, &mut p.nursery, &mut p.entries, &mut p.waiting, &mut p.cells)),
+        nursery_over_junk(|p| {
+            raw::read_journal(None, &journal, delay, &mut p.nursery, &mut p.entries, &mut p.waiting, &mut p.cells)
+        }),
     ];
     let owned = [
         CellNursery::new(3, 9, delay),
-        read_journal(&journal, 3, 9, delay).map(|(nursery, _)| nursery).map_err(|error| {
+        read_journal(&Mode::Unkeyed, &journal, 3, 9, delay).map(|(nursery, _)| nursery).map_err(|error| {
             let JournalError::Setting(refusal) = error else { panic!("{error}") };
             assert_eq!((error.number(), error.damaged(), error.to_string().as_str()), (23, None, "bad setting"));
             refusal
@@ -258,12 +263,15 @@ fn before_anything_else() {
     for (journal, wanted) in &journals {
         assert_eq!(read(journal, 1).0, *wanted);
         assert_eq!(
-            read_journal(journal, 3, 9, 1).map_err(|error| error.damaged()).err(),
-            scan_journal(journal).damaged().map(Some)
+            read_journal(&Mode::Unkeyed, journal, 3, 9, 1).map_err(|error| error.damaged()).err(),
+            scan_journal(&Mode::Unkeyed, journal).damaged().map(Some)
         );
         for delay in NO_DELAYS {
             assert_eq!(read(journal, delay), (23, [0; 3]));
-            assert_eq!(read_journal(journal, 3, 9, delay).unwrap_err(), JournalError::Setting(Refusal::BadSetting));
+            assert_eq!(
+                read_journal(&Mode::Unkeyed, journal, 3, 9, delay).unwrap_err(),
+                JournalError::Setting(Refusal::BadSetting)
+            );
         }
     }
 
@@ -272,7 +280,7 @@ fn before_anything_else() {
     assert_eq!(number(Counters::deserialize_trusted(&snapshot, usize::MAX, shrink(0, 5, 5))), 23);
     assert_eq!(number(Counters::load_snapshot(&snapshot, usize::MAX, shrink(0, 5, 5)).map(|_| ())), 23);
     assert_eq!(number(CellNursery::new(usize::MAX, usize::MAX, 0)), 23);
-    assert_eq!(read_journal(&[], usize::MAX, usize::MAX, 0).unwrap_err().number(), 23);
+    assert_eq!(read_journal(&Mode::Unkeyed, &[], usize::MAX, usize::MAX, 0).unwrap_err().number(), 23);
 }
 
 #[test]
@@ -288,11 +296,11 @@ fn both_halves_are_judged_before_either_is_made() {
     for bad in delays.into_iter().chain(shrinks).chain([both]) {
         assert_eq!(bad.check(), Err(Refusal::BadSetting));
         for room in [none, some] {
-            assert_eq!(NodeBox::new(NextIdx::new(0), room, bad).unwrap_err(), Refusal::BadSetting);
+            assert_eq!(NodeBox::new(NextIdx::new(0), room, bad, Mode::Unkeyed).unwrap_err(), Refusal::BadSetting);
             for (snapshot, journal) in
                 [(&snapshot, &journal), (&vec![], &journal), (&snapshot, &vec![0; 40]), (&vec![], &vec![0; 40])]
             {
-                let error = NodeBox::restore(snapshot, journal, room, bad).unwrap_err();
+                let error = NodeBox::restore(snapshot, journal, room, bad, Mode::Unkeyed).unwrap_err();
                 assert_eq!((error, error.number()), (RestoreError::Setting(Refusal::BadSetting), 23));
                 assert_eq!(error.to_string(), "settings refused with 23");
                 assert_eq!(error.source().unwrap().to_string(), "bad setting");
@@ -300,9 +308,12 @@ fn both_halves_are_judged_before_either_is_made() {
         }
     }
     assert_eq!(RestoreError::from(Refusal::BadSetting), RestoreError::from(JournalError::Setting(Refusal::BadSetting)));
-    assert_eq!(NodeBox::restore(&[], &[0; 40], some, good).unwrap_err().number(), 8);
-    assert_eq!(NodeBox::restore(&snapshot, &[0; 40], some, good).unwrap_err().number(), 21);
-    assert!(NodeBox::restore(&snapshot, &journal, some, good).is_ok() && NodeBox::new(NextIdx::new(0), some, good).is_ok());
+    assert_eq!(NodeBox::restore(&[], &[0; 40], some, good, Mode::Unkeyed).unwrap_err().number(), 8);
+    assert_eq!(NodeBox::restore(&snapshot, &[0; 40], some, good, Mode::Unkeyed).unwrap_err().number(), 21);
+    assert!(
+        NodeBox::restore(&snapshot, &journal, some, good, Mode::Unkeyed).is_ok()
+            && NodeBox::new(NextIdx::new(0), some, good, Mode::Unkeyed).is_ok()
+    );
 }
 
 // ---- the delay
@@ -385,7 +396,7 @@ fn threshold(c: &Counters) -> u64 {
 #[test]
 fn thresholds_of_a_box() {
     let room = Room { counts: 2, entries: 0, cell_bytes: 0 };
-    let mut c = NodeBox::new(NextIdx::new(2), room, settings(1, shrink(10, 35, 7))).unwrap().counters;
+    let mut c = NodeBox::new(NextIdx::new(2), room, settings(1, shrink(10, 35, 7)), Mode::Unkeyed).unwrap().counters;
     c.apply_batch(&[change(0, 0, 1), change(1, 0, 1)]).unwrap();
     assert_eq!(threshold(&c), 10);
     // Nothing is removed, so there is nothing to shrink, whatever is saved.
@@ -555,7 +566,7 @@ fn values_beside_twenty_are_zeros() {
 fn no_call_changes_them() {
     let s = settings(7, shrink(3, 12, 5));
     let room = Room { counts: 2, entries: 2, cell_bytes: 3 };
-    let mut node = NodeBox::new(NextIdx::new(1), room, s).unwrap();
+    let mut node = NodeBox::new(NextIdx::new(1), room, s, Mode::Unkeyed).unwrap();
     let mut journal = Vec::new();
     let same = |node: &NodeBox| {
         assert_eq!((node.settings(), node.counters.settings(), node.nursery.delay()), (s, s.shrink(), 7));
@@ -590,15 +601,19 @@ fn no_call_changes_them() {
     same(&node);
     let (state, counts) = node.counters.clone().into_parts();
     let parts = node.nursery.clone().into_parts();
-    same(&NodeBox { counters: Counters::from_parts(state, counts).unwrap(), nursery: CellNursery::from_parts(parts).unwrap() });
-    same(&NodeBox::restore(&node.counters.serialize(), &journal, room, s).unwrap().node_box);
+    same(&NodeBox {
+        counters: Counters::from_parts(state, counts).unwrap(),
+        nursery: CellNursery::from_parts(parts).unwrap(),
+        mode: Mode::Unkeyed,
+    });
+    same(&NodeBox::restore(&node.counters.serialize(), &journal, room, s, Mode::Unkeyed).unwrap().node_box);
 }
 
 #[test]
 fn a_box_that_is_read_in_has_those_given() {
     let room = Room { counts: 4, entries: 3, cell_bytes: 9 };
     let a = settings(10_000, shrink(3, 12, 5));
-    let mut node = NodeBox::new(NextIdx::new(2), room, a).unwrap();
+    let mut node = NodeBox::new(NextIdx::new(2), room, a, Mode::Unkeyed).unwrap();
     let mut journal = Vec::new();
     node.counters.apply_batch(&[change(0, 0, 1), change(1, 0, 300)]).unwrap();
     for _ in 0..3 {
@@ -611,7 +626,7 @@ fn a_box_that_is_read_in_has_those_given() {
 
     let snapshot = node.counters.serialize();
     for s in [a, Settings::STANDARD, settings(1, shrink(1, MAX, 0)), settings(9_999, shrink(MAX, MAX, MAX))] {
-        let mut c = NodeBox::restore(&snapshot, &journal, room, s).unwrap().node_box;
+        let mut c = NodeBox::restore(&snapshot, &journal, room, s, Mode::Unkeyed).unwrap().node_box;
         // The threshold starts at the given base, and the entry waits for the given delay.
         assert_eq!((c.settings(), threshold(&c.counters)), (s, s.shrink_base));
         // Neither a snapshot nor a listing shows settings.
@@ -625,7 +640,7 @@ fn a_box_that_is_read_in_has_those_given() {
         assert_eq!((loaded.settings(), threshold(&loaded)), (s.shrink(), s.shrink_base));
     }
     // A journal's record doesn't either.
-    assert_eq!(journal, encode_record(1, &insert(1, 10, 0, &[1])).unwrap().bytes());
+    assert_eq!(journal, encode_record(&Mode::Unkeyed, 1, &insert(1, 10, 0, &[1])).unwrap().bytes());
 }
 
 // ---- beside a plain model
@@ -752,14 +767,15 @@ struct Met {
 
 fn one_box(n: &mut Numbers, met: &mut Met) {
     let s = n.settings();
-    let (mut node, mut p, mut journal) = (NodeBox::new(NextIdx::new(NEXT), ROOM, s).unwrap(), Plain::new(s), Vec::new());
+    let (mut node, mut p, mut journal) =
+        (NodeBox::new(NextIdx::new(NEXT), ROOM, s, Mode::Unkeyed).unwrap(), Plain::new(s), Vec::new());
     // Each index has a cell, so that any may rise.
     let born: Vec<_> = (0..NEXT).map(|idx| change(idx, 0, 1)).collect();
     node.counters.apply_batch(&born).unwrap();
     for id in 0..400 {
         match n.below(100) {
             0 => {
-                node = NodeBox::restore(&node.counters.serialize(), &journal, ROOM, s).unwrap().node_box;
+                node = NodeBox::restore(&node.counters.serialize(), &journal, ROOM, s, Mode::Unkeyed).unwrap().node_box;
                 p.read_in();
                 met.read_in += 1;
             }

@@ -1,6 +1,6 @@
 //! The worked lines of document 01, boxes that go on from them, and batches taken back (document 02, P7).
 use selvaigo::{
-    CellNursery, CounterTransition, Counters, HashBytes, Idx, NextIdx, NodeBox, NurseryDelta, NurseryEntryRecord, RefCount,
+    CellNursery, CounterTransition, Counters, HashBytes, Idx, Mode, NextIdx, NodeBox, NurseryDelta, NurseryEntryRecord, RefCount,
     Refusal, Room, Settings, adjust_shrink_threshold, decode_record, encode_record, hash, read_journal, should_shrink,
 };
 
@@ -175,17 +175,17 @@ fn the_tables_of_one_entry() {
 
 #[test]
 fn records() {
-    let empty = encode_record(5, &NurseryDelta::default()).unwrap();
+    let empty = encode_record(&Mode::Unkeyed, 5, &NurseryDelta::default()).unwrap();
     assert_eq!(empty.bytes().len(), 56);
-    assert_eq!(decode_record(&empty.bytes()[..55]), Err(Refusal::ShortRecord));
+    assert_eq!(decode_record(&Mode::Unkeyed, &empty.bytes()[..55]), Err(Refusal::ShortRecord));
     assert_eq!(empty.hash(), &hash(&empty.bytes()[32..]));
     let delta = NurseryDelta { inserts: vec![insert(3, 1, 2, b"xyz")], removes: vec![] };
-    let record = encode_record(6, &delta).unwrap();
+    let record = encode_record(&Mode::Unkeyed, 6, &delta).unwrap();
     assert_eq!(record.bytes().len(), 105);
     let delta = NurseryDelta { removes: vec![HashBytes([8; 32])], ..delta };
-    let record = encode_record(7, &delta).unwrap();
+    let record = encode_record(&Mode::Unkeyed, 7, &delta).unwrap();
     let behind = [record.bytes(), b"rest"].concat();
-    let back = decode_record(&behind).unwrap();
+    let back = decode_record(&Mode::Unkeyed, &behind).unwrap();
     assert_eq!((back.id, back.hash, back.record_len()), (7, *record.hash(), 137));
     assert_eq!((back.delta(), &back.stats), (delta, record.stats()));
     let s = back.stats;
@@ -220,7 +220,7 @@ fn maintenance() {
 #[test]
 fn a_box_is_read_in_again() {
     let room = Room { counts: 4, entries: 4, cell_bytes: 64 };
-    let (mut node, mut journal) = (NodeBox::new(NextIdx::new(0), room, SETTINGS).unwrap(), Vec::new());
+    let (mut node, mut journal) = (NodeBox::new(NextIdx::new(0), room, SETTINGS, Mode::Unkeyed).unwrap(), Vec::new());
     let idx = node.counters.alloc_idx().unwrap();
     node.counters.apply_batch(&[change(idx.get(), 0, 300)]).unwrap();
     node.commit(1, &inserts(vec![insert(5, 0, 3, b"five"), insert(4, 0, 3, b"four")]), &mut journal).unwrap();
@@ -231,12 +231,13 @@ fn a_box_is_read_in_again() {
     assert_eq!(journal.len(), first);
     node.commit(4, &NurseryDelta { inserts: vec![], removes: vec![HashBytes([5; 32])] }, &mut journal).unwrap();
 
-    let whole = NodeBox::restore(&node.counters.serialize(), &journal, room, SETTINGS).unwrap();
+    let whole = NodeBox::restore(&node.counters.serialize(), &journal, room, SETTINGS, Mode::Unkeyed).unwrap();
     assert_eq!((whole.journal.applied, whole.journal.place, whole.journal.refusal), (2, journal.len(), None));
     assert_eq!(whole.node_box.nursery.snapshot_entries(), node.nursery.snapshot_entries());
     assert_eq!(whole.node_box.counters.serialize(), node.counters.serialize());
 
-    let (cut, end) = read_journal(&journal[..journal.len() - 1], room.entries, room.cell_bytes, SETTINGS.delay).unwrap();
+    let (cut, end) =
+        read_journal(&Mode::Unkeyed, &journal[..journal.len() - 1], room.entries, room.cell_bytes, SETTINGS.delay).unwrap();
     assert_eq!((end.applied, end.place, end.refusal), (1, first, Some(Refusal::ShortRecord)));
     assert_eq!(cut.len(), 2);
 }

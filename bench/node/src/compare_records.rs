@@ -4,13 +4,24 @@ use std::num::NonZeroUsize;
 use std::sync::Arc;
 
 use rayon::ThreadPool;
-use selvaigo::{DeltaItems, Settings, decode_record, encode_items, raw};
+use selvaigo::{DeltaItems, Mode, Settings, decode_record, encode_items, raw};
 
 use super::super::cell_nursery::{CellNursery, NurseryDelta};
 use super::super::nursery_persistence::format;
 use super::compare_nursery::same_entries;
 use super::{insert, insert_of, items_of, mixed, with_commas};
 use crate::measure::{Run, side};
+
+// The modes of the port's records, and how their lines are named. The original has the first alone.
+const MODES: [(Mode, &str); 2] = [(Mode::Unkeyed, ""), (Mode::Keyed(*b"whats the Elvish word for friend"), ", keyed")];
+
+// A record of the original's, with the official hash in a mode.
+fn in_mode(mode: &Mode, record: &[u8]) -> Vec<u8> {
+    match mode {
+        Mode::Unkeyed => record.to_vec(),
+        Mode::Keyed(key) => [blake3::keyed_hash(key, &record[32..]).as_slice(), &record[32..]].concat(),
+    }
+}
 
 pub fn hash(run: &Run, len: u64) {
     let what = format!("hash, {} bytes", with_commas(len));
@@ -25,34 +36,43 @@ pub fn hash(run: &Run, len: u64) {
 }
 
 pub fn record(run: &Run, inserts: u64) {
-    let what = format!("record, {} inserts", with_commas(inserts));
-    if !run.wanted(&what) {
-        return;
+    for (mode, name) in MODES {
+        let what = format!("record, {} inserts{name}", with_commas(inserts));
+        if run.wanted(&what) {
+            record_in(run, &what, &mode, inserts);
+        }
     }
+}
+
+fn record_in(run: &Run, what: &str, mode: &Mode, inserts: u64) {
     let delta = NurseryDelta { inserts: (0..inserts).map(insert).collect(), removes: Vec::new() };
     let bytes = items_of(&delta.inserts);
     let items = DeltaItems::borrowed(inserts, 0, &bytes);
     let record = format::encode_record(5, &delta).bytes().to_vec();
-    let mut out = vec![0; record.len()];
-    let (len, written) = encode_items(5, &items, &mut out).unwrap();
-    assert!(len == record.len() && out == record, "the two records differ");
+    let own = in_mode(mode, &record);
+    let mut out = vec![0; own.len()];
+    let (len, written) = encode_items(mode, 5, &items, &mut out).unwrap();
+    assert!(len == own.len() && out == own, "the two records differ");
     let mut buffer = Vec::new();
-    same_record(&record, &bytes, written, &mut buffer);
+    same_record(mode, &record, &bytes, written, &mut buffer);
 
-    let ours = side(1, || _ = black_box(encode_items(5, &items, &mut out)));
+    let ours = side(1, || _ = black_box(encode_items(mode, 5, &items, &mut out)));
     let theirs = side(1, || drop(black_box(format::encode_record(5, &delta))));
     run.line(&format!("{what}: encode"), [ours, theirs]);
-    let ours = side(1, || drop(black_box(decode_record(&record))));
+    let ours = side(1, || drop(black_box(decode_record(mode, &own))));
     let theirs = side(1, || drop(black_box(format::decode_record(&mut &record[..], &mut buffer).unwrap())));
     run.line(&format!("{what}: decode"), [ours, theirs]);
 }
 
-fn same_record(record: &[u8], items: &[u8], written: selvaigo::RecordStats, buffer: &mut Vec<u8>) {
+// The original's record, which the port reads in a mode.
+fn same_record(mode: &Mode, record: &[u8], items: &[u8], written: selvaigo::RecordStats, buffer: &mut Vec<u8>) {
     let theirs = format::decode_record(&mut &record[..], buffer).unwrap();
-    let ours = decode_record(record).unwrap();
+    let own = in_mode(mode, record);
+    let ours = decode_record(mode, &own).unwrap();
     assert!(*ours.items.bytes == *items, "the port's items differ");
     assert!(format::encode_record(5, &theirs.delta).bytes()[..] == *record, "the original's items differ");
-    assert_eq!((ours.id, ours.hash, ours.stats), (theirs.id, theirs.hash, written));
+    assert_eq!((ours.id, ours.stats), (theirs.id, written));
+    assert_eq!((&ours.hash[..], &theirs.hash[..]), (&own[..32], &record[..32]));
     let (a, b) = (ours.stats, theirs.stats);
     assert_eq!(
         (a.payload_bytes, a.metadata_bytes, a.cell_bytes, a.insert_ops, a.remove_ops),
@@ -69,14 +89,22 @@ pub fn journal(run: &Run, pool: &Arc<ThreadPool>, records: u64, inserts: u64, ce
     if cell != 100 {
         what += &format!(", cells of {} bytes", with_commas(cell));
     }
-    if !run.wanted(&what) {
-        return;
+    for (mode, name) in MODES {
+        let what = format!("{what}{name}");
+        if run.wanted(&what) {
+            journal_in(run, &what, &mode, pool, records, inserts, cell);
+        }
     }
+}
+
+fn journal_in(run: &Run, what: &str, mode: &Mode, pool: &Arc<ThreadPool>, records: u64, inserts: u64, cell: u64) {
     let delta = |i: u64| NurseryDelta {
         inserts: (i * inserts..(i + 1) * inserts).map(|k| insert_of(k, cell)).collect(),
         removes: Vec::new(),
     };
-    let journal: Vec<u8> = (0..records).flat_map(|i| format::encode_record(i, &delta(i)).bytes().to_vec()).collect();
+    let all: Vec<Vec<u8>> = (0..records).map(|i| format::encode_record(i, &delta(i)).bytes().to_vec()).collect();
+    let own: Vec<u8> = all.iter().flat_map(|record| in_mode(mode, record)).collect();
+    let journal = all.concat();
     let mut buffer = Vec::new();
     let mut original = || {
         let nursery = CellNursery::new(NonZeroUsize::MIN, pool.clone());
@@ -88,16 +116,16 @@ pub fn journal(run: &Run, pool: &Arc<ThreadPool>, records: u64, inserts: u64, ce
     };
     let n = (records * inserts) as usize;
     let delay = Settings::STANDARD.delay;
-    let (nursery, end) = selvaigo::read_journal(&journal, n, cell as usize * n, delay).unwrap();
+    let (nursery, end) = selvaigo::read_journal(mode, &own, n, cell as usize * n, delay).unwrap();
     assert_eq!((end.applied, end.place, end.refusal), (records, journal.len(), None));
     same_entries(&original(), &nursery);
 
     let mut p = nursery.into_parts();
     let ours = side(1, || {
-        _ = black_box(raw::read_journal(&journal, delay, &mut p.nursery, &mut p.entries, &mut p.waiting, &mut p.cells));
+        _ = black_box(raw::read_journal(mode.key(), &own, delay, &mut p.nursery, &mut p.entries, &mut p.waiting, &mut p.cells));
     });
     let theirs = side(1, || drop(black_box(original())));
-    run.line(&what, [ours, theirs]);
+    run.line(what, [ours, theirs]);
 }
 
 // Journals of 100 MB, of short records and of long ones, without leftovers and with 8 bytes of them in each.
@@ -112,7 +140,7 @@ pub fn conversions(run: &Run) {
         let record = |i: u64| {
             let items = items_of(&(i * inserts..(i + 1) * inserts).map(insert).collect::<Vec<_>>());
             let mut out = vec![0; len as usize];
-            encode_items(i, &DeltaItems::borrowed(inserts, 0, &items), &mut out).unwrap();
+            encode_items(&Mode::Unkeyed, i, &DeltaItems::borrowed(inserts, 0, &items), &mut out).unwrap();
             out
         };
         let new: Vec<u8> = (0..100_000_000 / len).flat_map(record).collect();

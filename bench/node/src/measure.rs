@@ -80,7 +80,10 @@ impl Run {
     }
 
     pub fn foot(&self) {
-        println!("{} lines; in each of them both sides gave the same answers.", self.lines.get());
+        println!(
+            "{} lines; in each of them both sides gave the same answers, but for the hashes of records under a key.",
+            self.lines.get()
+        );
     }
 
     pub fn head_of_conversions(&self) {

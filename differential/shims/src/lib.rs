@@ -40,6 +40,10 @@ pub fn hash(bytes: &[u8]) -> Hash {
     Hash(blake3::hash(bytes))
 }
 
+pub fn keyed_hash(key: &[u8; 32], bytes: &[u8]) -> Hash {
+    Hash(blake3::keyed_hash(key, bytes))
+}
+
 impl Hash {
     pub fn as_bytes(&self) -> &[u8; OUT_LEN] {
         self.0.as_bytes()

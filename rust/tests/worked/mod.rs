@@ -1,5 +1,5 @@
 //! The three records of which the worked journals are made.
-use selvaigo::{HashBytes, Idx, NurseryDelta, NurseryEntryRecord, encode_record};
+use selvaigo::{HashBytes, Idx, Mode, NurseryDelta, NurseryEntryRecord, encode_record};
 
 pub fn tagged(tag: u8) -> HashBytes {
     let mut hash = [0; 32];
@@ -18,6 +18,10 @@ pub fn remove(tag: u8) -> NurseryDelta {
 
 // Three records: two inserts, and the first of them removed.
 pub fn three() -> [Vec<u8>; 3] {
+    three_in(&Mode::Unkeyed)
+}
+
+pub fn three_in(mode: &Mode) -> [Vec<u8>; 3] {
     let deltas = [insert(1, 10, 0, &[0xaa, 0xbb]), insert(2, 11, 1, &[0xcc]), remove(1)];
-    [1, 2, 3].map(|id| encode_record(id, &deltas[id as usize - 1]).unwrap().bytes().to_vec())
+    [1, 2, 3].map(|id| encode_record(mode, id, &deltas[id as usize - 1]).unwrap().bytes().to_vec())
 }
