@@ -245,7 +245,7 @@ uint8_t selvaigo_scan_journal(uint8_t keyed, const uint8_t *key, size_t key_len,
  * the record there is cut, 12 or 13 where its delta is refused, and no other; what was applied stays. There are two refusals:
  * SELVAIGO_BAD_SETTING, of key or delay, whatever the journal is; and SELVAIGO_DAMAGED, where the scan above finds damage, also behind a delta
  * that would be refused; it comes before any delta is applied. A journal of another key or mode has such damage in its first record, if that is
- * whole. */
+ * whole and BLAKE3 keeps the hashes apart. */
 uint8_t selvaigo_read_journal(uint8_t keyed, const uint8_t *key, size_t key_len, const uint8_t *journal, size_t journal_len,
                               uint64_t delay, uint64_t nursery[SELVAIGO_NURSERY], uint64_t *entries, size_t entries_len,
                               uint64_t *waiting, size_t waiting_len, uint8_t *cells, size_t cells_len, uint64_t read[3]);

@@ -57,9 +57,12 @@ pub extern "C" fn selvaigo_load_snapshot(
     put_counters(a, loaded, state)
 }
 
-// A journal, read into an empty nursery with a delay, in a record and tables of any content. A refusal changes none of them.
+// A journal, read in a mode (a flag, whether there is a key, and the key) into an empty nursery with a delay, in a record and tables of any content. A
+// refusal changes none of them.
 #[no_mangle]
 pub extern "C" fn selvaigo_read_journal(
+    keyed: u8,
+    key: &[u8],
     journal: &[u8],
     delay: u64,
     nursery: &mut [u64; 4],
@@ -68,9 +71,9 @@ pub extern "C" fn selvaigo_read_journal(
     cells: &mut [u8],
     read: &mut [u64; 3],
 ) -> u8
-    ensures { λ r. ⌜ said r (now (read .exit) ∷ []) (now (nursery .exit) ∷ now (entries .exit) ∷ now (waiting .exit) ∷ now (cells .exit) ∷ []) ≡ journalSaid delay (now (journal .entry)) (now (nursery .entry)) (now (entries .entry)) (now (waiting .entry)) (now (cells .entry)) ⌝ }
+    ensures { λ r. ⌜ said r (now (read .exit) ∷ []) (now (nursery .exit) ∷ now (entries .exit) ∷ now (waiting .exit) ∷ now (cells .exit) ∷ []) ≡ journalSaid keyed (now (key .entry)) delay (now (journal .entry)) (now (nursery .entry)) (now (entries .entry)) (now (waiting .entry)) (now (cells .entry)) ⌝ }
 {
-    let x = journal_read::read_journal(journal, delay, entries, waiting, cells);
+    let x = journal_read::read_journal(keyed != 0, key, journal, delay, entries, waiting, cells);
     let ended = x.ended;
     let number = ended.number() as u64;
     *read = [x.applied as u64, x.place as u64, number];

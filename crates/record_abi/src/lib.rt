@@ -1,9 +1,14 @@
 // Hash, records, the scan of a journal and its conversion as C functions; include/selvaigo.h declares them. A slice passes as a pointer and a length, an array as a pointer.
+// A mode is a flag, whether there is a key, and the key.
+use base::Refusal;
+use blake3::bad_key;
+use blake3::hash_from;
+use blake3::start_of;
 ghost use mathlib.Core.Path.{_≡_};
 ghost use mathlib.Core.List.{[], _∷_};
 ghost use Rattle.blake3.specs.Spec as blake3;
 ghost use Rattle.state_words.specs.Words.{said};
-ghost use Rattle.word_calls.specs.RecordSaid.{encodeSaid, decodeSaid, scanSaid, convertSaid};
+ghost use Rattle.word_calls.specs.RecordSaid.{keyedHashSaid, encodeSaid, decodeSaid, scanSaid, convertSaid};
 
 // The hash of bytes.
 #[no_mangle]
@@ -13,9 +18,25 @@ pub extern "C" fn selvaigo_hash(bytes: &[u8], hash: &mut [u8; 32])
     *hash = blake3::hash(bytes);
 }
 
-// The record of a delta, written into the output.
+// The hash of bytes under a key.
+#[no_mangle]
+pub extern "C" fn selvaigo_keyed_hash(key: &[u8], bytes: &[u8], hash: &mut [u8; 32]) -> u8
+    ensures { λ r. ⌜ said r (now (hash .exit) ∷ []) [] ≡ keyedHashSaid (now (key .entry)) (now (bytes .entry)) ⌝ }
+{
+    if bad_key(true, key) {
+        *hash = [0; 32];
+        return Refusal::BadSetting.number();
+    }
+    let start = start_of(true, key);
+    *hash = hash_from(start, bytes);
+    0
+}
+
+// The record of a delta in a mode, written into the output.
 #[no_mangle]
 pub extern "C" fn selvaigo_encode_record(
+    keyed: u8,
+    key: &[u8],
     id: u64,
     wide: u8,
     inserts: u64,
@@ -24,9 +45,18 @@ pub extern "C" fn selvaigo_encode_record(
     out: &mut [u8],
     figures: &mut [u64; 6],
 ) -> u8
-    ensures { λ r. ⌜ said r (now (figures .exit) ∷ []) (now (out .exit) ∷ []) ≡ encodeSaid id wide inserts removes (now (items .entry)) (now (out .entry)) ⌝ }
+    ensures { λ r. ⌜ said r (now (figures .exit) ∷ []) (now (out .exit) ∷ []) ≡ encodeSaid keyed (now (key .entry)) id wide inserts removes (now (items .entry)) (now (out .entry)) ⌝ }
 {
-    let x = record_write::encode_record(id, wide != 0, inserts, removes, items, out);
+    let x = record_write::encode_record(
+        keyed != 0,
+        key,
+        id,
+        wide != 0,
+        inserts,
+        removes,
+        items,
+        out,
+    );
     let s = x.stats;
     *figures = [
         x.len as u64,
@@ -40,16 +70,18 @@ pub extern "C" fn selvaigo_encode_record(
     a.number()
 }
 
-// The record that bytes start with.
+// The record that bytes start with, in a mode.
 #[no_mangle]
 pub extern "C" fn selvaigo_decode_record(
+    keyed: u8,
+    key: &[u8],
     bytes: &[u8],
     figures: &mut [u64; 8],
     hash: &mut [u8; 32],
 ) -> u8
-    ensures { λ r. ⌜ said r (now (figures .exit) ∷ now (hash .exit) ∷ []) [] ≡ decodeSaid (now (bytes .entry)) ⌝ }
+    ensures { λ r. ⌜ said r (now (figures .exit) ∷ now (hash .exit) ∷ []) [] ≡ decodeSaid keyed (now (key .entry)) (now (bytes .entry)) ⌝ }
 {
-    let x = record_read::decode_record(bytes);
+    let x = record_read::decode_record(keyed != 0, key, bytes);
     let s = x.stats;
     *figures = [
         x.id,
@@ -67,19 +99,25 @@ pub extern "C" fn selvaigo_decode_record(
     a.number()
 }
 
-// The records of a journal, applied to nothing.
+// The records of a journal in a mode, applied to nothing.
 #[no_mangle]
-pub extern "C" fn selvaigo_scan_journal(journal: &[u8], scan: &mut [u64; 3]) -> u8
-    ensures { λ r. ⌜ said r (now (scan .exit) ∷ []) [] ≡ scanSaid (now (journal .entry)) ⌝ }
+pub extern "C" fn selvaigo_scan_journal(
+    keyed: u8,
+    key: &[u8],
+    journal: &[u8],
+    scan: &mut [u64; 3],
+) -> u8
+    ensures { λ r. ⌜ said r (now (scan .exit) ∷ []) [] ≡ scanSaid keyed (now (key .entry)) (now (journal .entry)) ⌝ }
 {
-    let x = journal_scan::scan(journal);
+    let x = journal_scan::scan(keyed != 0, key, journal);
     let ended = x.ended;
     let number = ended.number() as u64;
     *scan = [x.records as u64, x.place as u64, number];
-    0
+    let a = x.answer;
+    a.number()
 }
 
-// A journal without the bytes that its payloads have after their last items, and the list of these.
+// A journal of no key without the bytes that its payloads have after their last items, and the list of these.
 #[no_mangle]
 pub extern "C" fn selvaigo_convert_journal(
     journal: &[u8],

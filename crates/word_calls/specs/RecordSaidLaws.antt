@@ -2,8 +2,14 @@
 -- Assumes nothing.
 use Prim.Native.Nat.{ℕ}
 use mathlib.Core.Path.{_≡_, ap}
+use mathlib.Core.Bool.{true, false}
 use mathlib.Core.List.{List, [], _∷_}
-use Rattle.base.specs.Answers.{answerNumber}
+use Rattle.base.specs.Logic.{zeros}
+use Rattle.base.specs.Answers.{numberOf, answerNumber}
+use Rattle.base.specs.declared.Refusal.the-variants.{BadSetting}
+use Rattle.blake3.specs.declared.Start.{Start}
+use Rattle.blake3.specs.Mode.{modeOf, badKey, hashBy, startOf, hashFrom}
+use Rattle.blake3.specs.ModeLaws.{started}
 use Rattle.format.specs.declared.Encoded.{Encoded}
 use Rattle.format.specs.declared.Decoded.{Decoded}
 use Rattle.format.specs.Calls.{EncodedOut}
@@ -14,7 +20,17 @@ use Rattle.journal.specs.Journal.{ReadIn, effect}
 use Rattle.journal.specs.Convert as convert
 use Rattle.journal.specs.Convert.{ConvertedOut}
 use Rattle.state_words.specs.Words.{nurseryWords, said, wordsAfter}
-use Rattle.word_calls.specs.RecordSaid.{statWords, encodedSaid, decodedSaid, scannedSaid, convertedSaid, readInSaid}
+use Rattle.word_calls.specs.RecordSaid.{keyedHashSaid, statWords, encodedSaid, decodedSaid, scannedSaid, convertedSaid, readInSaid}
+
+-- hashing under a key that is bad, and from the start of one that isn't
+module _ (key bs : List ℕ) where
+  pub keyed-bad : {r : ℕ} → badKey (modeOf true key) ≡ true → r ≡ numberOf BadSetting → said r (zeros 32 ∷ []) [] ≡ keyedHashSaid key bs
+  unfolding keyedHashSaid
+  keyed-bad e p = rw (e, p)
+
+  pub keyed-said : {w : Start} {h : List ℕ} → badKey (modeOf true key) ≡ false → w ≡ startOf (modeOf true key) → h ≡ hashFrom w bs → said 0 (h ∷ []) [] ≡ keyedHashSaid key bs
+  unfolding keyedHashSaid hashBy
+  keyed-said e s p = rw (e, p, started (modeOf true key) s)
 
 pub encoded-said : {x : Encoded} {t : List ℕ} {y : EncodedOut} {r : ℕ} → record { result = x; out = t } ≡ y → r ≡ answerNumber (x .answer)
     → said r ((x .len ∷ statWords (x .stats)) ∷ []) (t ∷ []) ≡ encodedSaid y
@@ -26,9 +42,10 @@ pub decoded-said : {x y : Decoded} {r : ℕ} → x ≡ y → r ≡ answerNumber 
 unfolding decodedSaid
 decoded-said e p = rw p (ap decodedSaid e)
 
-pub scanned-said : {x y : JournalScan} {n : ℕ} → x ≡ y → n ≡ answerNumber (x .ended) → said 0 ((x .records ∷ x .place ∷ n ∷ []) ∷ []) [] ≡ scannedSaid y
+pub scanned-said : {x y : JournalScan} {n r : ℕ} → x ≡ y → n ≡ answerNumber (x .ended) → r ≡ answerNumber (x .answer)
+    → said r ((x .records ∷ x .place ∷ n ∷ []) ∷ []) [] ≡ scannedSaid y
 unfolding scannedSaid
-scanned-said e p = rw p (ap scannedSaid e)
+scanned-said e p q = rw (p, q) (ap scannedSaid e)
 
 pub converted-said : {x : Converted} {t u : List ℕ} {y : ConvertedOut} {r : ℕ} → convert.effect x t u ≡ y → r ≡ answerNumber (x .answer)
     → said r ((x .len ∷ x .«dropped_len» ∷ []) ∷ []) (t ∷ u ∷ []) ≡ convertedSaid y

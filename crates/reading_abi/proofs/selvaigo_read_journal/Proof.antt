@@ -30,7 +30,7 @@ returns : tie.Need-returns
 unfolding journalSaid
 returns c =
     let f = c .before .before .before .before .before .before .before .before .before .before .before in
-    read-said (f .before .before .before .before .before .before .before .before .args .nursery .now) (f .read-journal .ensures) (c .before .before .before .before .number .ensures) (c .put-nursery .ensures)
+    read-said (f .before .before .before .before .before .before .before .before .before .args .nursery .now) (f .read-journal .ensures) (c .before .before .before .before .number .ensures) (c .put-nursery .ensures)
 
 pub selvaigo-read-journal-spec : {M : Type 1} → statement M
 selvaigo-read-journal-spec =

@@ -14,9 +14,15 @@ number-requires c κs = search needs
 cast-number : tie.Need-cast-number
 cast-number c = search needs
 
+number-requires-2 : tie.Need-number-requires-2
+number-requires-2 c κs = search needs
+
 returns : tie.Need-returns
 unfolding scanSaid
-returns c = scanned-said (c .before .before .scan .ensures) (c .before .number .ensures)
+returns c =
+    let f = c .before .before in
+    scanned-said (f .before .scan .ensures) (f .number .ensures) (c .number2 .ensures)
 
 pub selvaigo-scan-journal-spec : {M : Type 1} → statement M
-selvaigo-scan-journal-spec = tie.close (tie.spec scan-requires number-requires cast-number returns)
+selvaigo-scan-journal-spec =
+    tie.close (tie.spec scan-requires number-requires cast-number number-requires-2 returns)
