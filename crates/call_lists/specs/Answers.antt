@@ -2,7 +2,7 @@
 -- Assumes nothing.
 use Prim.Native.Nat.{ℕ, _+_}
 use mathlib.Core.List.{List, [], _∷_}
-use lib.ListN.{length, take, drop}
+use lib.ListN.{length, take, drop, getD}
 use lib.Seq.{paste}
 use lib.Dec.{leb}
 use Rattle.base.specs.Logic.{pick, fold}
@@ -11,6 +11,10 @@ use Rattle.base.specs.Bytes.{le64, unle}
 -- the word at a place, and 0 where it isn't all there
 unfoldable pub wordAt : List ℕ → ℕ → ℕ
 wordAt call at = pick (leb (at + 8) (length call)) (unle (take 8 (drop at call))) 0
+
+-- where the key ends of a call that begins with whether there is one, its length and the key; 0 where it isn't all there
+unfoldable pub keyEnd : List ℕ → ℕ
+keyEnd call = let end = 2 + getD call 1 0 in pick (leb 2 (length call)) (pick (leb end (length call)) end 0) 0
 
 -- an output, and the place up to which an answer stands in it
 pub record Answer : Type 0 where

@@ -4,10 +4,10 @@ use byte_numbers::write_le64;
 use byte_slices::copy_at;
 ghost use mathlib.Core.Path.{_≡_};
 ghost use mathlib.Core.List.{[], _∷_};
-ghost use Prim.Native.Nat.{_+_};
+ghost use Prim.Native.Nat.{_+_, _≤_};
 ghost use lib.Dec.{leb};
 ghost use lib.ListN.{length};
-ghost use Rattle.call_lists.specs.Answers.{wordAt, upTo, withBytes, withWord, withWords, answerOf};
+ghost use Rattle.call_lists.specs.Answers.{wordAt, keyEnd, upTo, withBytes, withWord, withWords, answerOf};
 
 // No answer has this length.
 pub const NONE: usize = 300000;
@@ -47,6 +47,26 @@ pub fn word(call: &[u8], at: usize) -> u64
         return read_le64(call, at);
     }
     0
+}
+
+fn wide(b: u8) -> usize
+    ensures { λ r. ⌜ (r ≡ b) × (r ≤ 255) ⌝ }
+{
+    b as usize
+}
+
+// Where the key ends of a call that begins with whether there is one, its length (a byte) and the key; 0 where it isn't all there.
+pub fn key_end(call: &[u8]) -> usize
+    ensures { λ r. ⌜ (r ≡ keyEnd (now (call .entry))) × (r ≤ length (now (call .entry))) ⌝ }
+{
+    if call.len() < 2 {
+        return 0;
+    }
+    let end = 2 + wide(call[1]);
+    if call.len() < end {
+        return 0;
+    }
+    end
 }
 
 // A byte goes into the answer; where the next one goes, and `NONE` where there is no room.

@@ -1,6 +1,7 @@
 // Calls on a nursery.
 use byte_slices::copy_at;
 use call_lists::answers::NONE;
+use call_lists::answers::key_end;
 use call_lists::answers::put;
 use call_lists::answers::put_byte;
 use call_lists::answers::put_bytes;
@@ -46,6 +47,39 @@ fn apply_commit(
 }
 
 fn read_journal(
+    keyed: u8,
+    key: &[u8],
+    delay: u64,
+    nursery: &mut [u64; 4],
+    entries: &mut [u64; 256],
+    waiting: &mut [u64; 160],
+    cells: &mut [u8; 2048],
+    journal: &[u8],
+    out: &mut [u8],
+) -> usize {
+    let mut read = [7u64; 3];
+    let number = selvaigo_read_journal(
+        keyed,
+        key,
+        journal,
+        delay,
+        nursery,
+        entries,
+        waiting,
+        cells,
+        &mut read,
+    );
+    put_three(out, number, &read)
+}
+
+fn scan_journal(keyed: u8, key: &[u8], journal: &[u8], out: &mut [u8]) -> usize {
+    let mut scan = [7u64; 3];
+    let number = selvaigo_scan_journal(keyed, key, journal, &mut scan);
+    put_three(out, number, &scan)
+}
+
+// The two calls in a mode, which stands before the journal.
+fn read_in_mode(
     delay: u64,
     nursery: &mut [u64; 4],
     entries: &mut [u64; 256],
@@ -54,15 +88,31 @@ fn read_journal(
     call: &[u8],
     out: &mut [u8],
 ) -> usize {
-    let mut read = [7u64; 3];
-    let number = selvaigo_read_journal(call, delay, nursery, entries, waiting, cells, &mut read);
-    put_three(out, number, &read)
+    let end = key_end(call);
+    if end < 2 {
+        return NONE;
+    }
+    let key = &call[2..end];
+    let journal = &call[end..];
+    read_journal(
+        call[0],
+        key,
+        delay,
+        nursery,
+        entries,
+        waiting,
+        cells,
+        journal,
+        out,
+    )
 }
 
-fn scan_journal(call: &[u8], out: &mut [u8]) -> usize {
-    let mut scan = [7u64; 3];
-    let number = selvaigo_scan_journal(call, &mut scan);
-    put_three(out, number, &scan)
+fn scan_in_mode(call: &[u8], out: &mut [u8]) -> usize {
+    let end = key_end(call);
+    if end < 2 {
+        return NONE;
+    }
+    scan_journal(call[0], &call[2..end], &call[end..], out)
 }
 
 fn drain(
@@ -188,7 +238,8 @@ fn read(
         21 => listing(nursery, entries, cells, out),
         22 => totals(nursery, out),
         27 => put(out, 0, nursery),
-        25 => scan_journal(call, out),
+        25 => scan_journal(0, &[], call, out),
+        29 => scan_in_mode(call, out),
         _ => NONE,
     }
 }
@@ -205,7 +256,17 @@ pub(crate) fn answer(
 ) -> usize {
     match kind {
         16 => apply_commit(nursery, entries, waiting, cells, call, out),
-        17 => read_journal(delay[0], nursery, entries, waiting, cells, call, out),
+        17 => read_journal(
+            0,
+            &[],
+            delay[0],
+            nursery,
+            entries,
+            waiting,
+            cells,
+            call,
+            out,
+        ),
         18 => drain(nursery, entries, waiting, cells, word(call, 0), out),
         23 => put_byte(
             out,
@@ -214,6 +275,7 @@ pub(crate) fn answer(
         ),
         24 => put_byte(out, 0, set(word(call, 0), nursery, entries, waiting, call)),
         26 => put_byte(out, 0, set_delay(delay, call)),
+        28 => read_in_mode(delay[0], nursery, entries, waiting, cells, call, out),
         _ => read(kind, nursery, entries, cells, call, out),
     }
 }

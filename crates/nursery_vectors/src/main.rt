@@ -14,6 +14,8 @@
 // | 19 | journal to scan | 0, records taken, the place after them, the number that ended it |
 // | 1a | delay of the calls behind it; 100 before it | 0 |
 // | 1b | | 0, the nursery's record |
+// | 1c | journal to read in a mode: whether there is a key (a byte), its length (a byte), the key, the journal | as 11 |
+// | 1d | journal to scan in a mode: the same | number, and as 19 |
 mod calls;
 
 use call_lists::answers::NONE;
@@ -113,4 +115,5 @@ fn main() {
     list(b"edges");
     list(b"journals");
     list(b"settings");
+    list(b"keyed_journals");
 }

@@ -2,6 +2,7 @@
 use byte_numbers::read_le32;
 use byte_slices::equal;
 use call_lists::answers::NONE;
+use call_lists::answers::key_end;
 use call_lists::answers::put;
 use call_lists::answers::put_byte;
 use call_lists::answers::put_bytes;
@@ -17,6 +18,7 @@ use record_abi::selvaigo_convert_journal;
 use record_abi::selvaigo_decode_record;
 use record_abi::selvaigo_encode_record;
 use record_abi::selvaigo_hash;
+use record_abi::selvaigo_keyed_hash;
 use shrink_abi::selvaigo_adjust_shrink_threshold;
 use shrink_abi::selvaigo_should_shrink;
 
@@ -26,14 +28,13 @@ fn hash(bytes: &[u8], out: &mut [u8]) -> usize {
     put_hash(out, 0, &key)
 }
 
-// The hash of a published input: byte i is i mod 251.
-fn published(input: &mut [u8], out: &mut [u8]) -> usize {
+// A published input: byte i is i mod 251.
+fn publish(input: &mut [u8]) {
     let mut i = 0;
     while i < input.len() {
         input[i] = (i % 251) as u8;
         i += 1;
     }
-    hash(input, out)
 }
 
 fn hash_published(len: u64, out: &mut [u8]) -> usize {
@@ -42,11 +43,36 @@ fn hash_published(len: u64, out: &mut [u8]) -> usize {
         return NONE;
     }
     let n = len as usize;
-    published(&mut input[0..n], out)
+    let bytes = &mut input[0..n];
+    publish(bytes);
+    hash(bytes, out)
+}
+
+fn keyed_hash(key: &[u8], bytes: &[u8], out: &mut [u8]) -> usize {
+    let mut hash = [7u8; 32];
+    let number = selvaigo_keyed_hash(key, bytes, &mut hash);
+    let at = put_byte(out, 0, number);
+    put_hash(out, at, &hash)
+}
+
+// The call has the length of a published input, and the key.
+fn keyed_published(call: &[u8], out: &mut [u8]) -> usize {
+    let mut input = text_room();
+    let len = word(call, 0);
+    if 280000 < len {
+        return NONE;
+    }
+    if call.len() < 8 {
+        return NONE;
+    }
+    let n = len as usize;
+    let bytes = &mut input[0..n];
+    publish(bytes);
+    keyed_hash(&call[8..], bytes, out)
 }
 
 // The call has the id, the numbers of inserts and removes, whether lengths are wide, and the items.
-fn encode(call: &[u8], out: &mut [u8]) -> usize {
+fn encode(keyed: u8, key: &[u8], call: &[u8], out: &mut [u8]) -> usize {
     if call.len() < 25 {
         return NONE;
     }
@@ -55,6 +81,8 @@ fn encode(call: &[u8], out: &mut [u8]) -> usize {
     }
     let mut figures = [7u64; 6];
     let number = selvaigo_encode_record(
+        keyed,
+        key,
         word(call, 0),
         call[24],
         word(call, 8),
@@ -67,12 +95,28 @@ fn encode(call: &[u8], out: &mut [u8]) -> usize {
     out.len()
 }
 
-fn decode(call: &[u8], out: &mut [u8]) -> usize {
+fn decode(keyed: u8, key: &[u8], call: &[u8], out: &mut [u8]) -> usize {
     let mut figures = [7u64; 8];
-    let mut key = [7u8; 32];
-    let number = selvaigo_decode_record(call, &mut figures, &mut key);
+    let mut hash = [7u8; 32];
+    let number = selvaigo_decode_record(keyed, key, call, &mut figures, &mut hash);
     let at = put_eight(out, number, &figures);
-    put_hash(out, at, &key)
+    put_hash(out, at, &hash)
+}
+
+// The same calls in a mode, which stands before them.
+fn in_mode(kind: u8, call: &[u8], out: &mut [u8]) -> usize {
+    let end = key_end(call);
+    if end < 2 {
+        return NONE;
+    }
+    let keyed = call[0];
+    let key = &call[2..end];
+    let rest = &call[end..];
+    match kind {
+        41 => encode(keyed, key, rest, out),
+        42 => decode(keyed, key, rest, out),
+        _ => NONE,
+    }
 }
 
 // Whether a record's items, encoded again with the id and the numbers that stand in it, give the record again.
@@ -88,6 +132,8 @@ fn again(record: &[u8]) -> u8 {
     let out = &mut room[0..n];
     let mut figures = [7u64; 6];
     selvaigo_encode_record(
+        0,
+        &[],
         word(record, 40),
         0,
         read_le32(record, 48) as u64,
@@ -100,7 +146,7 @@ fn again(record: &[u8]) -> u8 {
 }
 
 fn decode_and_again(call: &[u8], out: &mut [u8]) -> usize {
-    let at = decode(call, out);
+    let at = decode(0, &[], call, out);
     put_byte(out, at, again(call))
 }
 
@@ -150,12 +196,13 @@ pub(crate) fn answer(kind: u8, call: &[u8], out: &mut [u8]) -> usize {
     match kind {
         32 => hash(call, out),
         33 => hash_published(word(call, 0), out),
-        34 => encode(call, out),
-        35 => decode(call, out),
+        34 => encode(0, &[], call, out),
+        35 => decode(0, &[], call, out),
         36 => decode_and_again(call, out),
         37 => should_shrink(call, out),
         38 => adjust(call, out),
         39 => convert_call(call, out),
-        _ => NONE,
+        40 => keyed_published(call, out),
+        _ => in_mode(kind, call, out),
     }
 }

@@ -10,6 +10,9 @@
 // | 25 | alive, removed, minimum | whether to shrink |
 // | 26 | threshold, bytes saved, base, maximum, good save | the threshold after it (a word) |
 // | 27 | journal to convert: the length of the output for the list of what is dropped, journal | number, the two lengths, the list's output, the new journal's output |
+// | 28 | length of a published input, key | number, its hash under the key |
+// | 29 | record to write in a mode: whether there is a key (a byte), its length (a byte), the key, then as 22 | as 22 |
+// | 2a | record to read in a mode: the same before the record | as 23 |
 // | 30 | bytes | 0 where they are no bitmap; else 1, then first, step and number of its members' rows |
 // | 31 | place and two bytes to change, name of a file | the same of the file |
 mod bitmap_calls;
@@ -80,6 +83,9 @@ fn main() {
     list(b"records");
     list(b"long_record");
     list(b"hashes");
+    list(b"keyed_hashes");
+    list(b"keyed_records");
+    list(b"keyed_long");
     list(b"bitmaps");
     list(b"edges");
     list(b"converted");
