@@ -1,5 +1,5 @@
 -- What include/selvaigo.h promises of the calls over words: a refusal leaves all as it was, what the calls leave may be lent to the held forms,
--- which settings are refused and that no call changes them, and what a journal's reading ends with. `Numbers` on answers, `CountersKept` on the
+-- which settings and keys are refused, that no call changes a setting, and what a journal's reading ends with. `Numbers` on answers, `CountersKept` on the
 -- counters and their snapshots, `NurseryKept` on the nursery, `RecordKept` on records and journals.
 pub mod Numbers
 pub mod CountersKept
