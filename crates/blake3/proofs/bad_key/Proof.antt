@@ -1,6 +1,5 @@
 -- `blake3::bad_key` meets its contract. By whether there is a key.
 -- Assumes nothing.
-use mathlib.Core.Path.{_≡_, refl}
 use Rattle.blake3.specs.Mode.{badKey}
 use Rattle.blake3.proofs.bad_key.Statement.{statement}
 use Rattle.blake3.proofs.bad_key.Tie as tie

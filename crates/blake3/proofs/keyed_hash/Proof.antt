@@ -1,6 +1,6 @@
 -- `blake3::keyed_hash` meets its contract. Keyed mode starts from the words of the key, with its flag.
 -- Assumes nothing.
-use mathlib.Core.Path.{_≡_, ap, _∙_}
+use mathlib.Core.Path.{ap, _∙_}
 use mathlib.Core.List.{List}
 use Prim.Native.Nat.{ℕ}
 use borrow.Author.Needs.{needs}

@@ -1,13 +1,9 @@
 -- `blake3::start_of` meets its contract. By whether there is a key, which then has 32 bytes.
 -- Assumes nothing.
-use mathlib.Core.Path.{_≡_, refl, sym, ap, _∙_}
-use mathlib.Core.Bool.{Bool, true, false}
-use mathlib.Core.List.{List}
-use Prim.Native.Nat.{ℕ}
+use mathlib.Core.Path.{_∙_}
 use borrow.Author.Needs.{needs}
 use borrow.Author.Tests.{not-true, not-false}
-use Rattle.blake3.specs.Spec.{keyWords}
-use Rattle.blake3.specs.Mode.{modeOf, badKey, startOf}
+use Rattle.blake3.specs.Mode.{startOf}
 use Rattle.blake3.specs.ModeLaws.{key-length}
 use Rattle.blake3.proofs.start_of.Statement.{statement}
 use Rattle.blake3.proofs.start_of.Tie as tie
