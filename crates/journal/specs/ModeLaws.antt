@@ -1,15 +1,13 @@
 -- Scanning and reading in a mode. They are 23 where its key is bad, reading also where its delay is; else they are the calls under the mode's hash.
 -- Assumes nothing.
-use mathlib.Core.Path.{_≡_, refl, sym, ap, subst, _∙_}
-use mathlib.Core.Logic.{_↔_, _⊎_, inl, inr}
+use mathlib.Core.Path.{_≡_, refl, sym}
+use mathlib.Core.Logic.{_↔_, _⊎_}
 use mathlib.Core.Bool.{Bool, true, false}
 use mathlib.Core.List.{List, [], _∷_}
 use Prim.Native.Nat.{ℕ, _<_}
 use native.Mathlib.Omega.{arith}
 use Rattle.base.specs.Logic.{pick, any}
-use Rattle.base.specs.Answers.{numberOf}
-use Rattle.base.specs.AnswerLaws.{not-refused, exactly, Answers, first-refused, first-alone, later-refused, first-numbers}
-use Rattle.base.specs.declared.Answer.{Answer}
+use Rattle.base.specs.AnswerLaws.{not-refused, Answers, first-refused, first-alone, later-refused, first-numbers}
 use Rattle.base.specs.declared.Answer.the-variants.{Taken, Refused}
 use Rattle.base.specs.declared.Refusal.{Refusal}
 use Rattle.base.specs.declared.Refusal.the-variants.{Damaged, BadSetting}
