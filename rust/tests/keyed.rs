@@ -10,14 +10,15 @@ use selvaigo::{
     scan_journal, sys,
 };
 
+mod junk;
 mod worked;
+use junk::{junk, read};
 use worked::{insert, remove, tagged, three, three_in};
 
 const KEY: [u8; 32] = *b"whats the Elvish word for friend";
 const FLEET: Mode = Mode::Keyed(KEY);
 const ZEROS: Mode = Mode::Keyed([0; 32]);
 const DELAY: u64 = Settings::STANDARD.delay;
-const JUNK: u64 = 0x0505_0505_0505_0505;
 
 /// Keys that are none. The longer ones start with a key, and the last one's length is a key's in its last byte.
 fn no_keys() -> [Vec<u8>; 4] {
@@ -92,35 +93,6 @@ fn scanned(keyed: u8, key: &[u8], journal: &[u8]) -> (u8, [u64; 3]) {
     let answer =
         unsafe { sys::selvaigo_scan_journal(keyed, key.as_ptr(), key.len(), journal.as_ptr(), journal.len(), &mut scan) };
     (answer, scan)
-}
-
-/// A record and tables for three entries and nine cell bytes, with content that is no state's.
-fn junk() -> NurseryParts {
-    NurseryParts { nursery: [JUNK; sys::NURSERY], entries: [JUNK; 25].into(), waiting: [JUNK; 16].into(), cells: [5; 9].into() }
-}
-
-fn read(keyed: u8, key: &[u8], journal: &[u8], delay: u64) -> (u8, [u64; 3], NurseryParts) {
-    let (mut p, mut read) = (junk(), [9; 3]);
-    // SAFETY: slices and arrays, none of which overlaps another.
-    let answer = unsafe {
-        sys::selvaigo_read_journal(
-            keyed,
-            key.as_ptr(),
-            key.len(),
-            journal.as_ptr(),
-            journal.len(),
-            delay,
-            &mut p.nursery,
-            p.entries.as_mut_ptr(),
-            p.entries.len(),
-            p.waiting.as_mut_ptr(),
-            p.waiting.len(),
-            p.cells.as_mut_ptr(),
-            p.cells.len(),
-            &mut read,
-        )
-    };
-    (answer, read, p)
 }
 
 /// The reading over lent tables of any content, and what it leaves of them.

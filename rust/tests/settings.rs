@@ -9,12 +9,13 @@ use selvaigo::{
     adjust_shrink_threshold, encode_record, raw, read_journal, scan_journal, should_shrink, sys,
 };
 
+mod junk;
 mod worked;
+use junk::{JUNK, junk};
 use worked::{insert, remove, tagged, three};
 
 const MAX: u64 = u64::MAX;
 const LAST: u32 = u32::MAX;
-const JUNK: u64 = 0x0505_0505_0505_0505;
 
 /// Delays in their range and outside it; the last two would be in it with fewer bits.
 const DELAYS: [u64; 7] = [1, 2, 99, 100, 101, 9_999, 10_000];
@@ -131,10 +132,6 @@ fn judged(s: ShrinkSettings) -> u8 {
     made
 }
 
-fn junk() -> NurseryParts {
-    NurseryParts { nursery: [JUNK; sys::NURSERY], entries: [JUNK; 25].into(), waiting: [JUNK; 16].into(), cells: [5; 9].into() }
-}
-
 fn nursery_over_junk<T>(call: impl FnOnce(&mut NurseryParts) -> Result<T, Refusal>) -> Result<[u64; sys::NURSERY], Refusal> {
     let mut p = junk();
     let answer = call(&mut p);
@@ -143,26 +140,7 @@ fn nursery_over_junk<T>(call: impl FnOnce(&mut NurseryParts) -> Result<T, Refusa
 }
 
 fn read(journal: &[u8], delay: u64) -> (u8, [u64; 3]) {
-    let (mut p, mut read) = (junk(), [9; 3]);
-    // SAFETY: slices and arrays, none of which overlaps another.
-    let answer = unsafe {
-        sys::selvaigo_read_journal(
-            0,
-            [].as_ptr(),
-            0,
-            journal.as_ptr(),
-            journal.len(),
-            delay,
-            &mut p.nursery,
-            p.entries.as_mut_ptr(),
-            p.entries.len(),
-            p.waiting.as_mut_ptr(),
-            p.waiting.len(),
-            p.cells.as_mut_ptr(),
-            p.cells.len(),
-            &mut read,
-        )
-    };
+    let (answer, read, p) = junk::read(0, &[], journal, delay);
     assert!(answer == 0 || p == junk(), "a refusal changes something");
     (answer, read)
 }
