@@ -275,7 +275,7 @@ repeated-order order-nil = refl
 repeated-order (order-cons {a = x} {b = y} {l₁ = xs} {l₂ = ys} e r) =
     ap₂ (λ (a b : Bool). a || b) (ap (λ (z : ℕ). elem z xs) e ∙ any_order (eqb y) r) (repeated-order r)
 repeated-order (order-swap {a = x} {b = y} {a' = x'} {b' = y'} {l = l} e f) =
-    rw (e, f, eqb-sym y' x') (or-square (eqb x' y') (elem y' l) (elem x' l) (repeated l))
+    ap₂ (λ (a b : ℕ). repeated (a ∷ b ∷ l)) e f ∙ rw (eqb-sym y' x') (or-square (eqb x' y') (elem y' l) (elem x' l) (repeated l))
   where
     or-square : (a b c d : Bool) → (a || b || (c || d)) ≡ (a || c || (b || d))
     or-square true b c d = refl
@@ -307,7 +307,7 @@ module _ {A : Type 0} (key : A → ℕ) where
     fold-unset [] c e = refl
     fold-unset (x ∷ xs) c e = let f = or-false (eqb i (key x)) (elem i (map key xs)) e in rw f.0 (fold-unset xs c f.1)
 
-    pub fold-set : {xs : List A} (v c : C) → Some (λ x. (key x ≡ i) × (value x ≡ v)) xs → repeated (map key xs) ≡ false
+    pub fold-set : (v c : C) {xs : List A} → Some (λ x. (key x ≡ i) × (value x ≡ v)) xs → repeated (map key xs) ≡ false
         → fold (λ x d. pick (eqb i (key x)) (value x) d) xs c ≡ v
     unfolding fold repeated
     fold-set v c (here {x = x} {xs = xs} p) e =

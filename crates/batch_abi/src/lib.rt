@@ -1,4 +1,6 @@
 // A batch of transitions as C functions, lent as in counters_abi; include/selvaigo.h declares them.
+#![tactic(auto)]
+
 ghost use Rattle.std.specs.Prelude.{◌≡◌, true, [], ◌∷◌};
 ghost use Rattle.counters.specs.Layout as layout;
 ghost use Rattle.state_words.specs.Words.{counters_of, said};

@@ -1,4 +1,6 @@
 // The compression function of BLAKE3: a block of sixteen words taken into a chaining value of eight.
+#![tactic(auto)]
+
 ghost use Rattle.std.specs.Prelude.{◌≡◌, ◌<◌, ◌++◌};
 ghost use Rattle.blake3_compress.specs.Spec.{rotr, mix, g, schedule, scheduled, columns, diagonals, rounds, start, compress};
 

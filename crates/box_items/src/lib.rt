@@ -1,5 +1,7 @@
 // House items, as boxrun replays them: the item that bytes begin with, the call that its kind and body stand for, run on a box's
 // records and lent tables, and the numbers of the line that is printed for it.
+#![tactic(auto)]
+
 ghost use Rattle.std.specs.Prelude.{◌≡◌, List, ℕ, ◌*◌, ◌≤◌, length};
 ghost use Rattle.std.proofs.Math.Seq.{paste};
 ghost use Rattle.box_items.specs.Items.{bad_item, effect, box_of, ran, words_in, allocate_item, batch_item, delta_item, drain_item, call_of, item_call, line_of, turn_effect, turn};

@@ -1,5 +1,7 @@
 // What a run of house items reads of an item's first six bytes, and the text that it prints: a heading, and a line for each item. Text goes into a
 // lent output as far as there is room.
+#![tactic(auto)]
+
 ghost use Rattle.std.specs.Prelude.{◌≡◌, ◌-◌, min};
 ghost use Rattle.box_lines.specs.Lines.{kind_of, body_len, Output, output, nothing, append, field, line_text, heading};
 

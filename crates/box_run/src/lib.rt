@@ -1,4 +1,6 @@
 // A run of house items over lent bytes: what boxrun prints for them, in a lent output.
+#![tactic(auto)]
+
 ghost use Rattle.std.specs.Prelude.{◌≡◌};
 ghost use Rattle.base.specs.Logic.{flat};
 ghost use Rattle.node_box.specs.Box.{standard_settings, made};

@@ -2,6 +2,8 @@
 // have any length. What an item does and what is printed for it is the same code, `box_items::run_next` and `box_lines::put_line`. What stays outside is
 // the copying from standard input and to standard output: no contract can say what was read or written, so the functions here say nothing of it.
 // The files `stdin` and `stdout` are document 01's run.
+#![tactic(auto)]
+
 ghost use Rattle.std.specs.Prelude.{◌≤◌, length};
 
 use box_items::{Next, run_next};

@@ -1,5 +1,7 @@
 // Prints what `box_run::run` gives for a file of house items for each edge of the form: ends, lengths, kinds, bodies, and calls that are refused; last
 // for document 01's run, once into an output that is too short.
+#![tactic(auto)]
+
 use box_lines::Printed;
 use libc::STDOUT_FILENO;
 

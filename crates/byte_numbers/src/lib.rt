@@ -1,5 +1,7 @@
 // Numbers in slices of bytes. A number of 2k bytes is made of two of k, so that one law serves every width; the compiler makes
 // one load or one store of each.
+#![tactic(auto)]
+
 ghost use Rattle.std.specs.Prelude.{◌≡◌, ◌+◌, ◌≤◌, length, take, drop};
 ghost use Rattle.std.proofs.Math.Seq.{paste};
 ghost use Rattle.base.specs.Bytes.{le16, le32, le64, be, be64, unle, unbe};

@@ -1,4 +1,6 @@
 // Parts of slices of bytes, as `word_slices` has them of words.
+#![tactic(auto)]
+
 ghost use Rattle.std.specs.Prelude.{◌≡◌, ◌+◌, ◌≤◌, length, drop, replicate};
 ghost use Rattle.std.proofs.Math.Seq.{paste};
 ghost use Rattle.base.specs.Logic.{eqb_list, all_zero};

@@ -2,6 +2,8 @@
 // kind, and the answer. A line that begins with '#' is a comment. Numbers are little-endian, and words have eight bytes. An answer is the number that
 // the call gives, the words that it writes, which are 7 before the call, and the output that it is lent, which has 0x99 before the call and is as long
 // as the rest of the wanted answer.
+#![tactic(auto)]
+
 pub mod answers;
 pub mod files;
 pub mod lines;

@@ -1,4 +1,6 @@
 // A batch that passed every test, applied: first the rows that go, then those that come, each in a few passes over the table.
+#![tactic(auto)]
+
 ghost use Rattle.std.specs.Prelude.{◌≡◌, true, false, ◌*◌, ◌≤◌, length};
 ghost use Rattle.base.specs.Logic.{all};
 ghost use Rattle.rows.specs.Table as rows-table;

@@ -1,4 +1,6 @@
 // The batch call: every test over the whole batch before the first write, so that a batch is taken whole or refused whole.
+#![tactic(auto)]
+
 ghost use Rattle.std.specs.Prelude.{◌≡◌, true, false, ◌+◌, ◌-◌, ◌/◌, ◌%◌, ◌^◌, ◌≤◌, ◌<◌, ltb, length};
 ghost use Rattle.base.specs.Logic.{any, repeated};
 ghost use Rattle.base.specs.declared.Answer.TheVariants.{Taken, Refused};

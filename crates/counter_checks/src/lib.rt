@@ -1,4 +1,6 @@
 // The tests of a batch, each over the whole batch: lent words, three a transition (index, old, new).
+#![tactic(auto)]
+
 ghost use Rattle.std.specs.Prelude.{◌≡◌, ◌&&◌, ◌||◌, ◌+◌, ◌-◌, ◌/◌, ◌^◌, ◌≤◌, ◌<◌, ltb, length, drop};
 ghost use Rattle.base.specs.Logic.{any, elem, repeated, max64};
 ghost use Rattle.rows.specs.Table.{rows_of};

@@ -1,4 +1,6 @@
 // The alive threshold of a lent record. The work is `shrink_rules`'s, by value; this form alters the record through the loan.
+#![tactic(auto)]
+
 ghost use Rattle.std.specs.Prelude.{◌≡◌};
 ghost use Rattle.counters.specs.Maintenance.{adjusted};
 

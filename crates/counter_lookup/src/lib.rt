@@ -1,4 +1,6 @@
 // The count at an index of the lent table of counts.
+#![tactic(auto)]
+
 ghost use Rattle.std.specs.Prelude.{◌≡◌, true};
 ghost use Rattle.counters.specs.Layout as layout;
 ghost use Rattle.counters.specs.Calls.{get_call};

@@ -1,5 +1,7 @@
 // The passes that a batch is applied in, whatever number of rows it takes away or brings: rows that go are marked and then left out in one
 // pass, rows that come are laid aside at the table's end and then joined to the others in one pass.
+#![tactic(auto)]
+
 ghost use Rattle.std.specs.Prelude.{◌≡◌, [], ◌∷◌, ◌++◌, ◌+◌, ◌-◌, ◌*◌, ◌≤◌, ◌<◌, length, take, drop, get_or};
 ghost use Rattle.base.specs.Logic.{pick, elem, flat};
 ghost use Rattle.rows.specs.Table as rows-table;

@@ -1,4 +1,6 @@
 // Whether a batch names an index twice, by sorting: its indices go into the words behind the table's rows, which are 0 before and afterwards.
+#![tactic(auto)]
+
 ghost use Rattle.std.specs.Prelude.{◌≡◌, ◌+◌, ◌*◌, ◌/◌, ◌≤◌, length};
 ghost use Rattle.base.specs.Logic.{repeated, overlay, zeros};
 ghost use Rattle.rows.specs.Table.{Laid};

@@ -1,4 +1,6 @@
 // The lent table of counts, row by row: whether it holds a state, the count stored at an index, and a count set there.
+#![tactic(auto)]
+
 ghost use Rattle.std.specs.Prelude.{◌≡◌, ◌*◌, ◌≤◌, length};
 ghost use Rattle.base.specs.Logic.{all};
 ghost use Rattle.rows.specs.Table as rows-table;

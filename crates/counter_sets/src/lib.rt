@@ -1,4 +1,6 @@
 // The eight sets that counts to 256 lie in: which of them a count is in, how many counts are in one, and a removal count grown.
+#![tactic(auto)]
+
 ghost use Rattle.std.specs.Prelude.{◌≡◌, ◌*◌, ◌≤◌, length};
 ghost use Rattle.rows.specs.Table.{rows_of};
 ghost use Rattle.counters.specs.Counts as counts;

@@ -1,4 +1,6 @@
 // Maintenance: what shrinks, by the rules of `shrink_rules`, and what is left of the removal counts.
+#![tactic(auto)]
+
 ghost use Rattle.std.specs.Prelude.{◌≡◌, true, ◌*◌, ◌≤◌, length};
 ghost use Rattle.base.specs.Logic.{pick};
 ghost use Rattle.rows.specs.Table.{rows_of};

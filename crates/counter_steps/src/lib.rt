@@ -1,5 +1,7 @@
 // What a batch counts and changes: its tallies, its transitions applied, and maintenance after them. It is lent as words, three a transition
 // (index, old, new).
+#![tactic(auto)]
+
 ghost use Rattle.std.specs.Prelude.{◌≡◌, ◌&&◌, ◌*◌, ◌≤◌, length};
 ghost use Rattle.base.specs.Logic.{pick, keep};
 ghost use Rattle.rows.specs.Table as rows-table;

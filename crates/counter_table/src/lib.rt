@@ -1,4 +1,6 @@
 // Fresh counters in a lent table, and allocation, which is lent none.
+#![tactic(auto)]
+
 ghost use Rattle.std.specs.Prelude.{◌≡◌};
 ghost use Rattle.counters.specs.Counts as counts;
 ghost use Rattle.counters.specs.Layout.{record_of};

@@ -15,6 +15,8 @@
 // | 0b | length of the snapshot | number, length |
 // | 0c | snapshot to load, under the settings of 0d | number, live total that it has |
 // | 0d | settings of the calls behind it: base, maximum, good save; the standard ones before it | 0 |
+#![tactic(auto)]
+
 mod calls;
 
 use call_lists::answers::{NONE, room, text_room};

@@ -3,6 +3,8 @@
 //
 // The walk looks at each record, and asks the later ones for its index; after the last come the tests, in their order, each over
 // the whole batch. Then it applies the records that free a row, and at last those that store one.
+#![tactic(auto)]
+
 ghost use Rattle.std.specs.Prelude.{◌≡◌, ◌||◌, ◌+◌, ◌*◌, ◌/◌, ◌^◌, ◌<◌, ◌≤◌, length};
 ghost use Rattle.rows.specs.Table.{rows_of};
 ghost use Rattle.counters.specs.Layout.{count_row};

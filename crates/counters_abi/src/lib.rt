@@ -1,5 +1,7 @@
 // The counters' calls as C functions: a new state, an index handed out, a count. include/selvaigo.h declares them. A slice passes as a
 // pointer and a length, an array as a pointer. A state record is lent as its words of docs/LAYOUT.md.
+#![tactic(auto)]
+
 ghost use Rattle.std.specs.Prelude.{◌≡◌, true, [], ◌∷◌};
 ghost use Rattle.counters.specs.Layout as layout;
 ghost use Rattle.state_words.specs.Words.{counters_of, said};

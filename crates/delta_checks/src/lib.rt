@@ -1,4 +1,6 @@
 // What a delta is refused for beyond its own form: a hash that is there already or comes twice, and want of room.
+#![tactic(auto)]
+
 ghost use Rattle.std.specs.Prelude.{◌≡◌, true, ◌||◌, map, ◌+◌, ◌/◌, ◌≤◌, min, ltb, length, drop};
 ghost use Rattle.base.specs.Logic.{any, elem, repeated};
 ghost use Rattle.rows.specs.Keys.{keys, first_four};

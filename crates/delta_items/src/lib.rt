@@ -1,5 +1,7 @@
 // The items of a lent delta, walked by places: what stands where in an insert, where the inserts end, and what is over a limit. Nothing is
 // copied. `wide` says that a cell's length has 4 bytes, else it has 2.
+#![tactic(auto)]
+
 ghost use Rattle.std.specs.Prelude.{◌≡◌, true, ◌+◌, ◌-◌, ◌*◌, ◌≤◌, length, drop, leb};
 ghost use Rattle.cell_nursery.specs.Delta.{too_long};
 ghost use Rattle.cell_nursery.specs.Calls.{length_width};

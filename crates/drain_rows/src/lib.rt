@@ -1,4 +1,6 @@
 // What waiting rows hand out: which of them are due at a round, whether their entries fit an output, and the entries written.
+#![tactic(auto)]
+
 ghost use Rattle.std.specs.Prelude.{◌≡◌, ◌+◌, ◌*◌, ◌≤◌, length, take, leb};
 ghost use Rattle.std.proofs.Math.Seq.{paste};
 ghost use Rattle.base.specs.Logic.{keep, flat, overlay};

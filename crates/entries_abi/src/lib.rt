@@ -1,4 +1,6 @@
 // The nursery's calls that read it as C functions, lent as in nursery_abi; include/selvaigo.h declares them.
+#![tactic(auto)]
+
 ghost use Rattle.std.specs.Prelude.{◌≡◌, true, [], ◌∷◌};
 ghost use Rattle.cell_nursery.specs.Layout.{holds_entries, holds_cells};
 ghost use Rattle.state_words.specs.Words.{nursery_of, said};

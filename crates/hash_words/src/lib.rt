@@ -1,4 +1,6 @@
 // A hash of 32 bytes as a key of four words, and back: the tables hold words, records and outputs hold bytes.
+#![tactic(auto)]
+
 ghost use Rattle.std.specs.Prelude.{◌≡◌, ◌+◌, ◌≤◌, length, take, drop};
 ghost use Rattle.std.proofs.Math.Seq.{paste};
 ghost use Rattle.base.specs.Bytes.{unbe};

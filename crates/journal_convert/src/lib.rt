@@ -2,6 +2,8 @@
 //
 // A first pass measures, so that nothing is written where an output is too short; it hashes every record. The second doesn't: it copies the records
 // that have no leftovers, and hashes only those that it writes anew.
+#![tactic(auto)]
+
 ghost use Rattle.std.specs.Prelude.{◌≡◌, ◌+◌, ◌≤◌, length, take, drop};
 ghost use Rattle.base.specs.Logic.{overlay};
 ghost use Rattle.slices.specs.Places.{put_at};

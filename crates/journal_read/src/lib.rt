@@ -2,6 +2,8 @@
 //
 // A first pass has decoded them all, up to the end or the first cut: where one is damaged, nothing is applied. The second doesn't hash them
 // again, and needs no key. What it applied stays. A refused delta changes nothing, so that the tables hold what the records before it made.
+#![tactic(auto)]
+
 ghost use Rattle.std.specs.Prelude.{◌≡◌, true};
 ghost use Rattle.blake3.specs.Mode.{mode_of, hash_from};
 ghost use Rattle.cell_nursery.specs.Layout.{holds};

@@ -1,4 +1,6 @@
 // The first pass over a journal: its records are decoded one after another, up to the first that is refused. Nothing is applied.
+#![tactic(auto)]
+
 ghost use Rattle.std.specs.Prelude.{◌≡◌};
 ghost use Rattle.blake3.specs.Mode.{mode_of, hash_from};
 ghost use Rattle.journal.specs.Journal as journal;

@@ -1,5 +1,7 @@
 // The rows of a nursery's entries as bytes: the listing by ascending hash, each entry as a record's insert has it. And the parts in
 // which an entry is written, which draining shares.
+#![tactic(auto)]
+
 ghost use Rattle.std.specs.Prelude.{◌≡◌, ◌+◌, ◌*◌, ◌≤◌, length, get_or};
 ghost use Rattle.std.proofs.Math.Seq.{paste};
 ghost use Rattle.base.specs.Logic.{overlay};

@@ -1,6 +1,8 @@
 // The nursery's calls that change it as C functions; include/selvaigo.h declares them. A slice passes as a pointer and a length, an array as a
 // pointer. A state record is lent as its words of docs/LAYOUT.md. A form named .._held requires of the record and the tables what the form
 // beside it tests.
+#![tactic(auto)]
+
 ghost use Rattle.std.specs.Prelude.{◌≡◌, true, [], ◌∷◌};
 ghost use Rattle.cell_nursery.specs.Layout.{holds};
 ghost use Rattle.state_words.specs.Words.{nursery_of, said};

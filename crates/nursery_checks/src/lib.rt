@@ -1,4 +1,6 @@
 // Whether the nursery's lent tables hold a state: a pass over each table, and a look-up for each waiting row.
+#![tactic(auto)]
+
 ghost use Rattle.std.specs.Prelude.{◌≡◌, ◌*◌, ◌≤◌, length};
 ghost use Rattle.rows.specs.Table.{rows_of};
 ghost use Rattle.cell_nursery.specs.Layout.{entry_row, waiting_row, holds_entries, holds_waiting, holds_cells};

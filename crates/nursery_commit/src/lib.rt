@@ -1,4 +1,6 @@
 // A delta on the nursery: refused whole, or its inserts and then its removes, each in turn, in the lent tables.
+#![tactic(auto)]
+
 ghost use Rattle.std.specs.Prelude.{◌≡◌, true, ◌||◌, map};
 ghost use Rattle.base.specs.Logic.{any, elem, repeated};
 ghost use Rattle.rows.specs.Keys.{keys, first_four};

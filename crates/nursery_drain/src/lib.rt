@@ -1,4 +1,6 @@
 // Promotion: the entries that have waited long enough, handed out by born round and arrival. They stay entries and wait no more.
+#![tactic(auto)]
+
 ghost use Rattle.std.specs.Prelude.{◌≡◌, true};
 ghost use Rattle.cell_nursery.specs.Layout.{holds};
 ghost use Rattle.cell_nursery.specs.Calls.{drain_effect, drain_call};

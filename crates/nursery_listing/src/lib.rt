@@ -1,4 +1,6 @@
 // The listing of a nursery: its entries by ascending hash.
+#![tactic(auto)]
+
 ghost use Rattle.std.specs.Prelude.{◌≡◌, true};
 ghost use Rattle.cell_nursery.specs.Layout.{holds_entries, holds_cells};
 ghost use Rattle.cell_nursery.specs.Calls.{listing_call};

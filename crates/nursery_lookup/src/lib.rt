@@ -2,6 +2,8 @@
 //
 // A lookup in tables that hold a state is a search: its held form is for callers that own their tables. The other form checks
 // them first, a pass.
+#![tactic(auto)]
+
 ghost use Rattle.std.specs.Prelude.{◌≡◌, true};
 ghost use Rattle.base.specs.Bytes.{unbe};
 ghost use Rattle.rows.specs.Keys.{keys, first_four};

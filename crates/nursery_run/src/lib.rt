@@ -1,4 +1,6 @@
 // The items of a delta that a nursery has room for: its inserts and then its removes, each in turn, in the lent tables.
+#![tactic(auto)]
+
 ghost use Rattle.std.specs.Prelude.{◌≡◌, true, ◌+◌, ◌*◌, ◌/◌, ◌≤◌, min, length, drop};
 ghost use Rattle.base.specs.Logic.{fold};
 ghost use Rattle.cell_nursery.specs.Entries.{insert, remove};

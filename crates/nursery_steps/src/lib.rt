@@ -1,4 +1,5 @@
 // What one insert and one remove do in the nursery's lent tables, where the record and the tables hold a state.
+#![tactic(auto)]
 
 ghost use Rattle.std.specs.Prelude.{◌≡◌, true, ◌+◌, ◌≤◌, length, take, drop};
 ghost use Rattle.rows.specs.Wide.{key_of};

@@ -1,4 +1,6 @@
 // An empty nursery, made in the lent tables.
+#![tactic(auto)]
+
 ghost use Rattle.std.specs.Prelude.{◌≡◌};
 ghost use Rattle.cell_nursery.specs.Calls.{effect, new_call};
 

@@ -16,6 +16,8 @@
 // | 1b | | 0, the nursery's record |
 // | 1c | journal to read in a mode: whether there is a key (a byte), its length (a byte), the key, the journal | as 11 |
 // | 1d | journal to scan in a mode: the same | number, and as 19 |
+#![tactic(auto)]
+
 mod calls;
 
 use call_lists::answers::{NONE, room, text_room};

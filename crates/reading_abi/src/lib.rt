@@ -1,4 +1,6 @@
 // What a box is read in from, a snapshot and a journal, as C functions, lent as in counters_abi and nursery_abi; include/selvaigo.h declares them.
+#![tactic(auto)]
+
 ghost use Rattle.std.specs.Prelude.{◌≡◌, [], ◌∷◌};
 ghost use Rattle.state_words.specs.Words.{said};
 ghost use Rattle.word_calls.specs.CountersSaid.{deserialize_said, load_said};

@@ -1,5 +1,7 @@
 // Hash, records, the scan of a journal and its conversion as C functions; include/selvaigo.h declares them. A slice passes as a pointer and a length, an array as a pointer.
 // A mode is a flag, whether there is a key, and the key.
+#![tactic(auto)]
+
 ghost use Rattle.std.specs.Prelude.{◌≡◌, [], ◌∷◌};
 ghost use Rattle.blake3.specs.Spec as blake3;
 ghost use Rattle.state_words.specs.Words.{said};

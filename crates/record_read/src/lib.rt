@@ -2,6 +2,8 @@
 // Of the bytes only the hash is copied. Parsing doesn't judge the last of these: that is how records were read before they were exact.
 //
 // A record is judged by the hash from a start, which a caller makes once for all its records.
+#![tactic(auto)]
+
 ghost use Rattle.std.specs.Prelude.{◌≡◌, ◌+◌, ◌≤◌, length, take, drop};
 ghost use Rattle.base.specs.Logic.{eqb_list};
 ghost use Rattle.base.specs.Answers.{refused};

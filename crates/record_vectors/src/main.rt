@@ -15,6 +15,8 @@
 // | 2a | record to read in a mode: the same before the record | as 23 |
 // | 30 | bytes | 0 where they are no bitmap; else 1, then first, step and number of its members' rows |
 // | 31 | place and two bytes to change, name of a file | the same of the file |
+#![tactic(auto)]
+
 mod bitmap_calls;
 mod calls;
 

@@ -1,5 +1,7 @@
 // Encoding a delta as a record. What is lent is judged first; then the record is written behind its hash's 32 bytes, and the hash of what was
 // written goes in front.
+#![tactic(auto)]
+
 ghost use Rattle.std.specs.Prelude.{◌≡◌, true, false, ◌+◌, ◌-◌, ◌≤◌, length, take, drop};
 ghost use Rattle.base.specs.Logic.{flat, max32};
 ghost use Rattle.blake3.specs.Mode.{mode_of, hash_from};

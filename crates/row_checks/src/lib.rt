@@ -1,4 +1,6 @@
 // Whether a lent table has the form of rows: its keys ascend, and zeros alone stand behind them.
+#![tactic(auto)]
+
 ghost use Rattle.std.specs.Prelude.{◌≡◌, ◌*◌, ◌≤◌, ◌<◌, length};
 ghost use Rattle.base.specs.Logic.{ascending_from};
 ghost use Rattle.rows.specs.Table.{holds_rows};

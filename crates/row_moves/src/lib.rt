@@ -1,4 +1,6 @@
 // A row put into a table, or taken out: the rows behind it move.
+#![tactic(auto)]
+
 ghost use Rattle.std.specs.Prelude.{◌≡◌, ◌++◌, ◌+◌, ◌-◌, ◌≤◌, length, take, drop};
 ghost use Rattle.base.specs.Logic.{zeros};
 

@@ -1,4 +1,6 @@
 // Keys of rows, read and compared, and the place of a key among them: by halves, so that a lookup reads few rows.
+#![tactic(auto)]
+
 ghost use Rattle.std.specs.Prelude.{◌≡◌, true, ◌+◌, ◌*◌, ◌≤◌, ◌<◌, length, drop, ltb};
 ghost use Rattle.base.specs.Logic.{sorted_from};
 ghost use Rattle.rows.specs.Keys.{keys, first_word, first_four, place};

@@ -2,6 +2,7 @@
 //
 // A row's key is its first word, or its first four words as one number, the highest word first. The code over such tables stands in
 // `row_search`, `row_checks` and `row_moves`.
+#![tactic(auto)]
 
 // A key of four words, the highest first.
 #[derive(Drop)]

@@ -1,4 +1,6 @@
 // The counters' shrinking as C functions, lent as in counters_abi; include/selvaigo.h declares them.
+#![tactic(auto)]
+
 ghost use Rattle.std.specs.Prelude.{◌≡◌, true, [], ◌∷◌};
 ghost use Rattle.counters.specs.Layout as layout;
 ghost use Rattle.counters.specs.Maintenance.{should_shrink, adjust_shrink_threshold};

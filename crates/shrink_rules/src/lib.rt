@@ -1,4 +1,6 @@
 // The rules of shrinking, over numbers alone: the ranges of the settings, whether so many removals call for it, and the alive threshold after it.
+#![tactic(auto)]
+
 ghost use Rattle.std.specs.Prelude.{◌≡◌};
 ghost use Rattle.counters.specs.Maintenance.{in_range, should_shrink, adjust_shrink_threshold, adjusted};
 

@@ -1,3 +1,5 @@
 // The eight sets of a counters' snapshot: where they end, and their members side by side.
+#![tactic(auto)]
+
 pub mod lanes;
 pub mod sets;

@@ -2,6 +2,8 @@
 //
 // A length takes a look at each row for each set, and one for the large tier. Writing takes three for each set, and one for the
 // large tier.
+#![tactic(auto)]
+
 ghost use Rattle.std.specs.Prelude.{◌≡◌, ◌++◌, ◌+◌, ◌^◌, ◌≤◌, ◌<◌, length};
 ghost use Rattle.base.specs.Bytes.{le64};
 ghost use Rattle.rows.specs.Table.{rows_of};

@@ -1,6 +1,8 @@
 // Reading and loading a counters' snapshot into a lent table of any content. All is decided before the first write, so that a
 // refusal leaves the table as it was; then both tiers are gone through once more, by index, and each count is laid behind the one
 // before.
+#![tactic(auto)]
+
 ghost use Rattle.std.specs.Prelude.{◌≡◌, ◌/◌, max, length};
 ghost use Rattle.base.specs.Logic.{zeros};
 ghost use Rattle.base.specs.declared.Answer.TheVariants.{Refused};

@@ -1,4 +1,6 @@
 // The two tiers of a counters' snapshot: what lies in which order, and the large counts.
+#![tactic(auto)]
+
 pub mod large;
 
 ghost use Rattle.std.specs.Prelude.{◌≡◌};

@@ -1,4 +1,6 @@
 // The longest snapshot of as many stored counts as an input asks for: what the program longest_snapshot writes.
+#![tactic(auto)]
+
 ghost use Rattle.std.specs.Prelude.{◌≡◌, ◌*◌, ◌≤◌, length};
 ghost use Rattle.base.specs.Logic.{zeros};
 ghost use Rattle.base.specs.Answers.{taken};

@@ -1,6 +1,8 @@
 // The counters' snapshot, written into a lent output.
 //
 // Whether the output is long enough is decided before a byte of it is touched, so the length comes first.
+#![tactic(auto)]
+
 ghost use Rattle.std.specs.Prelude.{◌≡◌, true, ◌≤◌, length};
 ghost use Rattle.base.specs.Output.{effect};
 ghost use Rattle.slices.specs.Places.{put_at};

@@ -1,4 +1,6 @@
 // What a call gives, written as words: each step writes the values and the record, and returns the answer's number.
+#![tactic(auto)]
+
 ghost use Rattle.std.specs.Prelude.{◌≡◌, [], ◌∷◌};
 ghost use Rattle.base.specs.Answers.{answer_number};
 ghost use Rattle.state_words.specs.Words.{counters_words, nursery_words, words_after, bit, decisions};

@@ -1,4 +1,6 @@
 // The two state records as words in the order of docs/LAYOUT.md, for the calls that are lent words.
+#![tactic(auto)]
+
 ghost use Rattle.std.specs.Prelude.{◌≡◌};
 ghost use Rattle.state_words.specs.Words.{counters_of, counters_words, nursery_of, nursery_words};
 

@@ -1,4 +1,6 @@
 // The tests of one transition, by its index, old and new.
+#![tactic(auto)]
+
 ghost use Rattle.std.specs.Prelude.{◌≡◌, ◌&&◌, eqb};
 ghost use Rattle.rows.specs.Table.{rows_of};
 ghost use Rattle.counters.specs.Layout.{count_row};

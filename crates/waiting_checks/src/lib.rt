@@ -2,6 +2,8 @@
 //
 // Which entries are named already is marked, a bit each, for a window of the entries at a time. A row whose hash lies in another
 // window is passed over by its hash alone, so that each row is looked up once.
+#![tactic(auto)]
+
 ghost use Rattle.std.specs.Prelude.{◌≡◌, false, List, ℕ, ◌+◌, ◌*◌, ◌/◌, ◌%◌, ◌^◌, ◌≤◌, ◌<◌, length, leb, eqb};
 ghost use Rattle.rows.specs.Table.{rows_of};
 ghost use Rattle.rows.specs.Keys.{keys, first_four, place};

@@ -1,5 +1,7 @@
 // Parts of slices of words: moved, filled, copied. Each function says what the whole slice is afterwards, so that a caller
 // composes lists and goes through no loop.
+#![tactic(auto)]
+
 ghost use Rattle.std.specs.Prelude.{◌≡◌, ◌+◌, ◌≤◌, length, drop, replicate};
 ghost use Rattle.std.proofs.Math.Seq.{paste};
 ghost use Rattle.base.specs.Logic.{all_zero};

@@ -1,5 +1,7 @@
 // Words in order, by merging: each half is sorted by itself, and the two become one. The first half stands in the working space meanwhile,
 // so that the other is read before its places are written.
+#![tactic(auto)]
+
 ghost use Rattle.std.specs.Prelude.{◌≡◌, true, ◌&&◌, ◌++◌, ◌+◌, ◌≤◌, ◌<◌, ltb, length, take, get_or, drop};
 ghost use Rattle.base.specs.Logic.{repeated, sorted_from, zeros};
 ghost use Rattle.word_sort.specs.Sort.{sorted};
