@@ -115,7 +115,7 @@ module _ {A : Type 0} (g : ShrinkSettings) (o : Outcome A) where
 module _ (g : ShrinkSettings) (c : Counters) (t : List ℕ) (o : Outcome State) where
   pub laid_out-answer : (laid_out g c t o).result.answer ≡ answer_of o
   unfolding laid_out laid
-  laid_out-answer = elim o [ refused r ↦ refl | taken s ↦ refl ]
+  laid_out-answer = elim o as (λ (k : Outcome State). (laid_out g c t k).result.answer ≡ answer_of k) [ refused r ↦ refl | taken s ↦ refl ]
 
   pub laid_out-refused : (r : Refusal) → o ≡ refused r → ((laid_out g c t o).result.counters ≡ c) × ((laid_out g c t o).table ≡ t)
   unfolding laid_out
