@@ -18,9 +18,9 @@ use Rattle.counters.specs.Counts.{Entry, State, stored_at}
 use Rattle.counters.specs.Maintenance.{maintained}
 use Rattle.counters.specs.Batch.{birth, death, births, deaths, named, unallocated, false_old, off_total, counts_after, state_after, apply_kept}
 use Rattle.counters.specs.Layout.{ordered}
-use Rattle.counters.specs.CountLaws.{stored_of, same-stored}
-use Rattle.counters.specs.BatchLaws.{stored-unnamed, stored-named, old-stored, ordered-counts_after}
-use Rattle.counters.specs.JudgeLaws.{total-within}
+use Rattle.counters.proofs.CountLaws.{stored_of, same-stored}
+use Rattle.counters.proofs.BatchLaws.{stored-unnamed, stored-named, old-stored, ordered-counts_after}
+use Rattle.counters.proofs.JudgeLaws.{total-within}
 use Rattle.batch_pairs.specs.Pairs.{exchanged}
 
 -- ---- kept transitions that are taken

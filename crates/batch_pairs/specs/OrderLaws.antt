@@ -11,11 +11,11 @@ use Rattle.counters.specs.Counts.{Entry, State, stored_at}
 use Rattle.counters.specs.Maintenance.{grown, grown_sets, maintained, falls, clears}
 use Rattle.counters.specs.Batch.{named, births, deaths, false_old, counts_after, state_after}
 use Rattle.counters.specs.Layout.{ordered}
-use Rattle.counters.specs.EachLaws.{each_same}
-use Rattle.counters.specs.MaintenanceLaws.{grown-at}
-use Rattle.counters.specs.CountLaws.{same-stored}
-use Rattle.counters.specs.BatchLaws.{stored-unnamed, old-stored, ordered-counts_after}
-use Rattle.counters.specs.JudgeLaws.{total-within}
+use Rattle.counters.proofs.EachLaws.{each_same}
+use Rattle.counters.proofs.MaintenanceLaws.{grown-at}
+use Rattle.counters.proofs.CountLaws.{same-stored}
+use Rattle.counters.proofs.BatchLaws.{stored-unnamed, old-stored, ordered-counts_after}
+use Rattle.counters.proofs.JudgeLaws.{total-within}
 use Rattle.batch_pairs.specs.InverseLaws.{Passes, stored-among}
 
 -- ---- the removal counters

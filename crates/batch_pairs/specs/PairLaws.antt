@@ -7,7 +7,7 @@ use Rattle.std.proofs.Math.Option.{some}
 use Rattle.std.proofs.Math.ListN.{length}
 use Rattle.base.specs.Answers.{taken}
 use Rattle.base.specs.declared.Answer.TheVariants.{Taken}
-use Rattle.rows.specs.TableLaws.{length-rows_of}
+use Rattle.rows.proofs.TableLaws.{length-rows_of}
 use Rattle.counters.specs.declared.ShrinkSettings.{ShrinkSettings}
 use Rattle.counters.specs.declared.Counters.{Counters}
 use Rattle.counters.specs.declared.CounterMaintenance.{CounterMaintenance}
@@ -15,13 +15,13 @@ use Rattle.counters.specs.declared.CounterTransition.{CounterTransition}
 use Rattle.counters.specs.Counts.{State}
 use Rattle.counters.specs.Maintenance.{maintained}
 use Rattle.counters.specs.Batch.{kept, state_after, apply_kept, apply_batch}
-use Rattle.counters.specs.BatchLaws.{apply_kept-order}
-use Rattle.counters.specs.BoundLaws.{bound-taken}
+use Rattle.counters.proofs.BatchLaws.{apply_kept-order}
+use Rattle.counters.proofs.BoundLaws.{bound-taken}
 use Rattle.counters.specs.Layout.{ordered, count_row, room_of, with_maintenance, state_of, holds, words_of, batch_of}
-use Rattle.counters.specs.LayoutLaws.{held}
-use Rattle.counters.specs.WordLaws.{words-batch}
+use Rattle.counters.proofs.LayoutLaws.{held}
+use Rattle.counters.proofs.WordLaws.{words-batch}
 use Rattle.counters.specs.Calls.{Changed, effect, on_state, laid, laid_out, batch_call}
-use Rattle.counters.specs.CallLaws.{batch-held, batch-accepted, batch-length, batch-settings, batch-taken-holds}
+use Rattle.counters.proofs.CallLaws.{batch-held, batch-accepted, batch-length, batch-settings, batch-taken-holds}
 use Rattle.snapshot.specs.Write.{snapshot_bytes}
 use Rattle.snapshot.specs.Calls.{serialize_call}
 use Rattle.node_box.specs.Box.{Box, batch, with_counters, step, snapshot_of}

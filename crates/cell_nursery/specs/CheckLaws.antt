@@ -10,7 +10,7 @@ use Rattle.base.specs.Logic.{all, flat, sum_of, overlay, zeros, all_zero, ascend
 use Rattle.base.specs.declared.Answer.TheVariants.{Taken}
 use Rattle.slices.specs.Laws.{paste-start}
 use Rattle.rows.specs.Table.{rows_of, table_of, holds_rows}
-use Rattle.rows.specs.TableLaws.{length-rows_of, drop-row}
+use Rattle.rows.proofs.TableLaws.{length-rows_of, drop-row}
 use Rattle.rows.specs.Keys.{first_four, keys}
 use Rattle.cell_nursery.specs.declared.Nursery.{Nursery}
 use Rattle.cell_nursery.specs.Entries.{empty, tied, cell_bytes}

@@ -2,7 +2,7 @@
 -- Assumes nothing.
 use Rattle.std.specs.Prelude.{refl}
 use Rattle.base.specs.Logic.{from}
-use Rattle.rows.specs.TableLaws.{Lawful, first-words}
+use Rattle.rows.proofs.TableLaws.{Lawful, first-words}
 use Rattle.cell_nursery.specs.Layout.{entry_row, waiting_row}
 
 pub entry-lawful : Lawful entry_row

@@ -13,8 +13,8 @@ use Rattle.base.specs.Maybe.{maybe}
 use Rattle.base.specs.Laws.{and_left, ascending-head, ascending-tail}
 use Rattle.base.specs.ListLaws.{keep_append, keep-swap, keep-whole, keep-empty, all-kept}
 use Rattle.rows.specs.Keys.{place}
-use Rattle.rows.specs.KeyLaws.{keep-below, keep-from}
-use Rattle.rows.specs.RowLaws.{keep-absent}
+use Rattle.rows.proofs.KeyLaws.{keep-below, keep-from}
+use Rattle.rows.proofs.RowLaws.{keep-absent}
 use Rattle.cell_nursery.specs.Entries.{Entry, Waiting, names}
 use Rattle.cell_nursery.specs.Drain.{due, named}
 use Rattle.cell_nursery.specs.EntryLaws.{entry_at}

@@ -15,7 +15,7 @@ use borrow.Author.Tests.{lt-ltb, le-ltb, le-leb, lt-leb, eq-eqb, ne_eqb, eqb-fal
 use Rattle.base.specs.Logic.{pick, all, any, elem, fold, keep, repeated, sum_of, ascending, ascending_from, sorted_from}
 use Rattle.base.specs.Maybe.{maybe}
 use Rattle.base.specs.Laws.{and_left, and_right, ascending-tail, ascending-sorted}
-use Rattle.rows.specs.KeyLaws.{put_rows, sorted-over}
+use Rattle.rows.proofs.KeyLaws.{put_rows, sorted-over}
 use Rattle.cell_nursery.specs.Entries.{Entry, Waiting, State, empty, tied, cell_bytes, put_entry, insert, remove}
 use Rattle.cell_nursery.specs.PutLaws.{put_waiting-rows}
 use Rattle.cell_nursery.specs.Items.{Delta}
@@ -26,7 +26,7 @@ use Rattle.base.specs.SumLaws.{or_left, or_right, all_one, sum-keep, length-keep
 use Rattle.cell_nursery.specs.ItemLaws.{fits_item, item-fits}
 use Rattle.cell_nursery.specs.WaitLaws.{gone_of, waits-insert, waits-remove, waits-drained, tied-waits, waits-tied, Absent, present-absent, first_absent, still-absent}
 use Rattle.cell_nursery.specs.LayoutLaws.{fits_waiting, WellFormed}
-use Rattle.rows.specs.RowLaws.{put-one-ascending, put-one-sorted, all-put, sum-put, length-put, length-put-between, keep-absent}
+use Rattle.rows.proofs.RowLaws.{put-one-ascending, put-one-sorted, all-put, sum-put, length-put, length-put-between, keep-absent}
 
 -- ---- the entry of a hash
 

@@ -19,10 +19,10 @@ use Rattle.base.specs.ListLaws.{keep_append}
 use Rattle.slices.specs.Laws.{paste-right, drop-paste-after}
 use Rattle.rows.specs.declared.Wide.{Wide}
 use Rattle.rows.specs.Table.{rows_of, table_of}
-use Rattle.rows.specs.TableLaws.{length-rows_of, take-rows_of, row_at}
+use Rattle.rows.proofs.TableLaws.{length-rows_of, take-rows_of, row_at}
 use Rattle.rows.specs.Keys.{first_four}
 use Rattle.rows.specs.Wide.{key_of}
-use Rattle.rows.specs.WideLaws.{Words, by_first, by-second, by-third, by-fourth}
+use Rattle.rows.proofs.WideLaws.{Words, by_first, by-second, by-third, by-fourth}
 use Rattle.cell_nursery.specs.Layout.{hash_of, hash_at, WaitingRow, waiting_row}
 use Rattle.cell_nursery.specs.CodingLaws.{waiting-lawful}
 

@@ -15,7 +15,7 @@ use Rattle.base.specs.declared.Answer.TheVariants.{Taken, Refused}
 use Rattle.base.specs.declared.Refusal.TheVariants.{Broken, OutputFull}
 use Rattle.slices.specs.Laws.{length_part, paste-append, paste-start, part-lent}
 use Rattle.rows.specs.Table.{rows_of}
-use Rattle.rows.specs.TableLaws.{length-rows_of}
+use Rattle.rows.proofs.TableLaws.{length-rows_of}
 use Rattle.rows.specs.Keys.{first_four}
 use Rattle.cell_nursery.specs.declared.Nursery.{Nursery}
 use Rattle.cell_nursery.specs.Entries.{Entry, cell_bytes, hash_bytes, insert_bytes}

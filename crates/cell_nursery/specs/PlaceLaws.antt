@@ -6,8 +6,8 @@ use Rattle.std.proofs.lemmas.List.{length-map, take-append-le, drop-set-add, tak
 use Rattle.std.proofs.Math.Seq.{append_snoc}
 use Rattle.base.specs.Logic.{zeros}
 use Rattle.rows.specs.Table.{rows_of, table_of, Laid}
-use Rattle.rows.specs.TableLaws.{length-rows_of, drop-row, holds-laid, replaced, table-rows_of, inserted, removed}
-use Rattle.rows.specs.RowLaws.{IsTable, is-table}
+use Rattle.rows.proofs.TableLaws.{length-rows_of, drop-row, holds-laid, replaced, table-rows_of, inserted, removed}
+use Rattle.rows.proofs.RowLaws.{IsTable, is-table}
 use Rattle.cell_nursery.specs.Layout.{EntryRow, entry_row}
 use Rattle.cell_nursery.specs.CodingLaws.{entry-lawful}
 

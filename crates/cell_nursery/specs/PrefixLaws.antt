@@ -17,9 +17,9 @@ use Rattle.base.specs.Laws.{flat_append}
 use Rattle.base.specs.declared.Answer.TheVariants.{Taken, Refused}
 use Rattle.base.specs.declared.Refusal.TheVariants.{Broken, OutputFull}
 use Rattle.rows.specs.Table.{rows_of, table_of}
-use Rattle.rows.specs.TableLaws.{row_at, length-rows_of, drop-rows_of, words-rows_of}
+use Rattle.rows.proofs.TableLaws.{row_at, length-rows_of, drop-rows_of, words-rows_of}
 use Rattle.rows.specs.Keys.{first_word, first_four, keys, place}
-use Rattle.rows.specs.KeyLaws.{length-keys, place-le}
+use Rattle.rows.proofs.KeyLaws.{length-keys, place-le}
 use Rattle.cell_nursery.specs.declared.Nursery.{Nursery}
 use Rattle.cell_nursery.specs.Entries.{Entry, Waiting}
 use Rattle.cell_nursery.specs.Drain.{due, named, promoted, drained, promoted_bytes, drain_bytes}

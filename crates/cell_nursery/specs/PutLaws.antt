@@ -2,7 +2,7 @@
 -- Assumes nothing.
 use Rattle.std.specs.Prelude.{◌≡◌, List, [], ◌∷◌, suc}
 use Rattle.std.proofs.Math.Dec.{leb-suc-suc}
-use Rattle.rows.specs.KeyLaws.{put_rows}
+use Rattle.rows.proofs.KeyLaws.{put_rows}
 use Rattle.cell_nursery.specs.Entries.{Waiting, put_waiting}
 
 pub put_waiting-rows : (w : Waiting) (ws : List Waiting) → put_waiting w ws ≡ put_rows (λ x. x.born) (suc w.born) (suc w.born) (w ∷ []) ws

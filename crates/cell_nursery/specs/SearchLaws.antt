@@ -15,10 +15,10 @@ use Rattle.base.specs.declared.Answer.TheVariants.{Taken, Refused}
 use Rattle.base.specs.declared.Refusal.TheVariants.{Broken}
 use Rattle.slices.specs.Laws.{length_part}
 use Rattle.rows.specs.Table.{rows_of}
-use Rattle.rows.specs.TableLaws.{row_at, length-rows_of}
+use Rattle.rows.proofs.TableLaws.{row_at, length-rows_of}
 use Rattle.rows.specs.Keys.{first_four, keys, place}
-use Rattle.rows.specs.KeyLaws.{length-keys, place_at}
-use Rattle.rows.specs.RowLaws.{elem-miss}
+use Rattle.rows.proofs.KeyLaws.{length-keys, place_at}
+use Rattle.rows.proofs.RowLaws.{elem-miss}
 use Rattle.cell_nursery.specs.declared.Nursery.{Nursery}
 use Rattle.cell_nursery.specs.Entries.{Entry}
 use Rattle.cell_nursery.specs.Layout.{hash_of, EntryRow, entry_row, entry_of, cells_of, end_to_end, entries_of, holds_entries, holds_cells}

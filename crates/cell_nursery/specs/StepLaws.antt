@@ -14,16 +14,16 @@ use Rattle.std.proofs.Math.Seq.{get_or-drop}
 use Rattle.base.specs.Logic.{pick, keep, elem, flat, sum_of, zeros, ascending, sorted_from}
 use Rattle.base.specs.Laws.{drop-zeros, flat_append, ascending-sorted}
 use Rattle.rows.specs.Table.{rows_of, table_of}
-use Rattle.rows.specs.TableLaws.{row_at}
+use Rattle.rows.proofs.TableLaws.{row_at}
 use Rattle.rows.specs.Keys.{first_word, first_four, keys, place}
-use Rattle.rows.specs.KeyLaws.{put_rows, length-keys, put_rows-places}
-use Rattle.rows.specs.PutLaws.{put-inserted}
+use Rattle.rows.proofs.KeyLaws.{put_rows, length-keys, put_rows-places}
+use Rattle.rows.proofs.PutLaws.{put-inserted}
 use Rattle.cell_nursery.specs.declared.Nursery.{Nursery}
 use Rattle.cell_nursery.specs.Entries.{Entry, Waiting, cell_bytes, put_entry, put_waiting, insert, remove}
 use Rattle.cell_nursery.specs.Drain.{lookup}
 use Rattle.cell_nursery.specs.Layout.{hash_of, hash_at, EntryRow, entry_row, WaitingRow, waiting_row, entry_row_of, entry_of, waiting_row_of, waiter_of, entry_rows, cells_of, entries_table, waiting_table, cells_table, entries_of, waiting_of, state_of}
 use Rattle.base.specs.SumLaws.{sum-append}
-use Rattle.rows.specs.RowLaws.{elem-miss, put-absent, keep_all, keep-hit, map-put}
+use Rattle.rows.proofs.RowLaws.{elem-miss, put-absent, keep_all, keep-hit, map-put}
 use Rattle.cell_nursery.specs.HashLaws.{words-hash, U64, u64-drop, words-at}
 use Rattle.cell_nursery.specs.PutLaws.{put_waiting-rows}
 use Rattle.cell_nursery.specs.EntryLaws.{lookup-entry_at, entry_at-hit, entry_at-miss, bytes-insert}

@@ -19,10 +19,10 @@ use Rattle.base.specs.Logic.{all, any, elem, keep, fold, repeated, ascending}
 use Rattle.base.specs.Laws.{and_left, and_right, and_both}
 use Rattle.base.specs.ListLaws.{or-false, any_order, all_left, all_weaker, keep_append, keep-empty, keep-order, length-order, repeated-order, eqb-sym}
 use Rattle.base.specs.SumLaws.{all_map, keep-map}
-use Rattle.rows.specs.KeyLaws.{put_rows}
+use Rattle.rows.proofs.KeyLaws.{put_rows}
 use Rattle.base.specs.OrderLaws.{two-parts, every, keep-either, all-order, ascending-once, once-left}
-use Rattle.rows.specs.RowLaws.{keep-absent}
-use Rattle.rows.specs.OrderLaws.{put-between, put-absent}
+use Rattle.rows.proofs.RowLaws.{keep-absent}
+use Rattle.rows.proofs.OrderLaws.{put-between, put-absent}
 use Rattle.cell_nursery.specs.Entries.{Entry, Waiting, State, empty, names, tied, put_entry, insert, remove}
 use Rattle.cell_nursery.specs.Items.{Delta}
 use Rattle.cell_nursery.specs.Delta.{present, state_after}

@@ -4,7 +4,7 @@ use Rattle.std.specs.Prelude.{◌≡◌, true, false, List, ℕ, length}
 use Rattle.std.proofs.Common.{sym, ap, ap₂, ◌∙◌}
 use Rattle.base.specs.Logic.{all}
 use Rattle.rows.specs.Table.{rows_of, table_of, Laid}
-use Rattle.rows.specs.TableLaws.{length-rows_of}
+use Rattle.rows.proofs.TableLaws.{length-rows_of}
 use Rattle.rows.specs.Keys.{keys, first_word}
 use Rattle.counters.specs.declared.CounterTransition.{CounterTransition}
 use Rattle.counters.specs.Counts.{Entry}
@@ -13,8 +13,8 @@ use Rattle.counters.specs.Held.{InOrder}
 use Rattle.counters.specs.Batch.{counts_after}
 use Rattle.counters.specs.Steps.{transitions}
 use Rattle.counter_steps.specs.Steps.{pass_of}
-use Rattle.counters.specs.RowLaws.{indices}
-use Rattle.counters.specs.ApplyLaws.{in-order-ascends}
+use Rattle.counters.proofs.RowLaws.{indices}
+use Rattle.counters.proofs.ApplyLaws.{in-order-ascends}
 use Rattle.counter_merge.specs.Passes.{stands, standing, any_hit, marked}
 use Rattle.counter_merge.specs.MarkLaws.{marked-indices, marked-none, standing-marked, standing-all}
 use Rattle.counter_merge.specs.TableLaws.{Same, same-indices}

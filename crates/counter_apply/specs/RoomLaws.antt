@@ -9,20 +9,20 @@ use Rattle.base.specs.Logic.{all, zeros, ascending_from}
 use Rattle.base.specs.Laws.{and_right}
 use Rattle.base.specs.ListLaws.{all_weaker}
 use Rattle.rows.specs.Table.{rows_of, table_of, Laid}
-use Rattle.rows.specs.TableLaws.{rows_of-table, length-table, zeros-from}
+use Rattle.rows.proofs.TableLaws.{rows_of-table, length-table, zeros-from}
 use Rattle.rows.specs.Keys.{keys, first_word}
 use Rattle.counters.specs.declared.CounterTransition.{CounterTransition}
 use Rattle.counters.specs.Counts.{Entry}
 use Rattle.counters.specs.declared.Counters.{Counters}
 use Rattle.counters.specs.Layout.{count_row, sound, ordered}
-use Rattle.counters.specs.LayoutLaws.{held}
-use Rattle.counters.specs.CodingLaws.{count-lawful}
+use Rattle.counters.proofs.LayoutLaws.{held}
+use Rattle.counters.proofs.CodingLaws.{count-lawful}
 use Rattle.counters.specs.Held.{InOrder, Judged}
 use Rattle.counters.specs.Batch.{counts_after}
 use Rattle.counters.specs.Steps.{transitions}
 use Rattle.counter_steps.specs.Steps.{pass_of}
-use Rattle.counters.specs.RowLaws.{indices}
-use Rattle.counters.specs.ApplyLaws.{in-order-table, in-order-ascends}
+use Rattle.counters.proofs.RowLaws.{indices}
+use Rattle.counters.proofs.ApplyLaws.{in-order-table, in-order-ascends}
 use Rattle.counter_merge.specs.Passes.{stands, new_rows, fronts, backs, joined, comes}
 use Rattle.counter_merge.specs.Halves.{Halves, Apart}
 use Rattle.counter_merge.specs.WordLaws.{rows-front, drop-front}

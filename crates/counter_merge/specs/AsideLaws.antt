@@ -8,14 +8,14 @@ use Rattle.std.proofs.Math.ListN.{length, drop}
 use Rattle.base.specs.Logic.{pick, elem, keep, fold}
 use Rattle.base.specs.ListLaws.{length-keep}
 use Rattle.rows.specs.Table.{rows_of, table_of}
-use Rattle.rows.specs.TableLaws.{length-rows_of, rows_of-table, table-rows_of, length-table}
+use Rattle.rows.proofs.TableLaws.{length-rows_of, rows_of-table, table-rows_of, length-table}
 use Rattle.rows.specs.Keys.{keys, first_word}
 use Rattle.counters.specs.declared.CounterTransition.{CounterTransition}
 use Rattle.counters.specs.Counts.{Entry, set_count}
 use Rattle.counters.specs.Layout.{count_row}
-use Rattle.counters.specs.CodingLaws.{count-lawful}
+use Rattle.counters.proofs.CodingLaws.{count-lawful}
 use Rattle.counters.specs.Held.{InOrder}
-use Rattle.counters.specs.ApplyLaws.{in-order-table, in-order-ascends}
+use Rattle.counters.proofs.ApplyLaws.{in-order-table, in-order-ascends}
 use Rattle.counter_merge.specs.Passes.{replaced, lands, is_new, front_one, fronts, new_rows, back_one, backs}
 use Rattle.counter_merge.specs.Halves.{Halves}
 use Rattle.counter_merge.specs.MarkLaws.{replaced-indices}

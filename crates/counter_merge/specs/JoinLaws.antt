@@ -10,10 +10,10 @@ use Rattle.std.proofs.Math.Dec.{eqb}
 use Rattle.base.specs.Logic.{pick, all, keep, fold, ascending_from}
 use Rattle.base.specs.Laws.{and_both, ascending-head, ascending-tail, ascending-sorted}
 use Rattle.base.specs.ListLaws.{all_head, all_tail, all-kept, all_weaker, keep_append, keep-whole, keep-empty, fold-append}
-use Rattle.rows.specs.RowLaws.{all-put, keep-others}
-use Rattle.rows.specs.KeyLaws.{put_rows}
+use Rattle.rows.proofs.RowLaws.{all-put, keep-others}
+use Rattle.rows.proofs.KeyLaws.{put_rows}
 use Rattle.counters.specs.Counts.{Entry, row_of, set_count}
-use Rattle.counters.specs.CountLaws.{set_count-again, set_count-swap}
+use Rattle.counters.proofs.CountLaws.{set_count-again, set_count-swap}
 use Rattle.counter_merge.specs.Passes.{joined}
 
 abbrev index : Entry → ℕ

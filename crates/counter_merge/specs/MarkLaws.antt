@@ -13,8 +13,8 @@ use borrow.Author.Tests.{le-leb, lt-leb, le-ltb, lt-ltb, eq-eqb, ne_eqb, eqb-fal
 use Rattle.base.specs.Logic.{pick, all, any, elem, keep, fold, ascending_from}
 use Rattle.base.specs.Laws.{ascending-head, ascending-tail, ascending-sorted}
 use Rattle.base.specs.ListLaws.{or-false, ascending-keep, keep-whole}
-use Rattle.rows.specs.RowLaws.{keep-others}
-use Rattle.rows.specs.KeyLaws.{put_rows}
+use Rattle.rows.proofs.RowLaws.{keep-others}
+use Rattle.rows.proofs.KeyLaws.{put_rows}
 use Rattle.counters.specs.declared.CounterTransition.{CounterTransition}
 use Rattle.counters.specs.Counts.{Entry, row_of, set_count}
 use Rattle.counters.specs.Batch.{changes, counts_after}

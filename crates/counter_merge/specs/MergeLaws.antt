@@ -17,15 +17,15 @@ use Rattle.base.specs.Logic.{pick, all, elem, zeros, ascending_from}
 use Rattle.base.specs.Laws.{and_left, and_right}
 use Rattle.base.specs.ListLaws.{all_append, all_left, all_right, all_head}
 use Rattle.rows.specs.Table.{rows_of, table_of, Laid}
-use Rattle.rows.specs.TableLaws.{length-rows_of, take-rows_of, drop-rows_of, table-rows_of, zeros-from}
+use Rattle.rows.proofs.TableLaws.{length-rows_of, take-rows_of, drop-rows_of, table-rows_of, zeros-from}
 use Rattle.rows.specs.Keys.{keys, first_word}
-use Rattle.rows.specs.KeyLaws.{length-keys, word_at}
-use Rattle.rows.specs.RowLaws.{elem-hit}
+use Rattle.rows.proofs.KeyLaws.{length-keys, word_at}
+use Rattle.rows.proofs.RowLaws.{elem-hit}
 use Rattle.counters.specs.Counts.{Entry}
 use Rattle.counters.specs.Layout.{count_row}
-use Rattle.counters.specs.CodingLaws.{count-lawful}
+use Rattle.counters.proofs.CodingLaws.{count-lawful}
 use Rattle.counters.specs.Steps.{row_at}
-use Rattle.counters.specs.ApplyLaws.{in-order-ascends}
+use Rattle.counters.proofs.ApplyLaws.{in-order-ascends}
 use Rattle.counter_merge.specs.Passes.{joined, comes, front_last, last_at}
 use Rattle.counter_merge.specs.Halves.{Apart}
 use Rattle.counter_merge.specs.JoinLaws.{join-none, join_front, join-back, unlike, under, under-row, under_more}

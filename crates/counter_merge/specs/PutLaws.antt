@@ -10,14 +10,14 @@ use native.Mathlib.Omega.{arith}
 use Rattle.base.specs.Logic.{pick, all, elem, fold, ascending_from}
 use Rattle.base.specs.Laws.{and_right}
 use Rattle.base.specs.ListLaws.{all_weaker, length-keep}
-use Rattle.rows.specs.RowLaws.{all-put, length-put}
-use Rattle.rows.specs.KeyLaws.{put_rows}
+use Rattle.rows.proofs.RowLaws.{all-put, length-put}
+use Rattle.rows.proofs.KeyLaws.{put_rows}
 use Rattle.counters.specs.declared.CounterTransition.{CounterTransition}
 use Rattle.counters.specs.Counts.{Entry, row_of, set_count}
-use Rattle.counters.specs.CountLaws.{length-row_of}
+use Rattle.counters.proofs.CountLaws.{length-row_of}
 use Rattle.counters.specs.Batch.{changes, counts_after}
 use Rattle.counter_steps.specs.Steps.{leaves_row, pass_of, apply_one}
-use Rattle.counters.specs.ApplyLaws.{set-ascends}
+use Rattle.counters.proofs.ApplyLaws.{set-ascends}
 use Rattle.counter_steps.specs.PassLaws.{turn, pass-none}
 use Rattle.counter_merge.specs.Passes.{replaced, lands, front_one, fronts, is_new, new_rows, back_one, backs, joined, comes}
 use Rattle.counter_merge.specs.MarkLaws.{replaced-indices, replaced-none, set-replaced-rows}

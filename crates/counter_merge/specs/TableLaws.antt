@@ -7,19 +7,19 @@ use Rattle.std.proofs.lemmas.Bool.{eqb-false}
 use Rattle.std.proofs.lemmas.List.{length-map, set-get_or}
 use Rattle.base.specs.Logic.{any, elem, fold, ascending_from}
 use Rattle.rows.specs.Table.{rows_of, table_of}
-use Rattle.rows.specs.TableLaws.{length-rows_of, rows_of-table, table-rows_of, length-table}
+use Rattle.rows.proofs.TableLaws.{length-rows_of, rows_of-table, table-rows_of, length-table}
 use Rattle.rows.specs.Keys.{keys, first_word, place}
-use Rattle.rows.specs.KeyLaws.{length-keys, word_at}
-use Rattle.rows.specs.RowLaws.{elem-hit, elem-miss}
-use Rattle.rows.specs.PutLaws.{put-replaced}
+use Rattle.rows.proofs.KeyLaws.{length-keys, word_at}
+use Rattle.rows.proofs.RowLaws.{elem-hit, elem-miss}
+use Rattle.rows.proofs.PutLaws.{put-replaced}
 use Rattle.counters.specs.declared.CounterTransition.{CounterTransition}
 use Rattle.counters.specs.Counts.{Entry}
 use Rattle.counters.specs.Layout.{count_row}
-use Rattle.counters.specs.CodingLaws.{count-lawful}
+use Rattle.counters.proofs.CodingLaws.{count-lawful}
 use Rattle.counters.specs.Held.{InOrder}
-use Rattle.counters.specs.RowLaws.{indices, in-order-sorted}
-use Rattle.counters.specs.SetLaws.{behind-row}
-use Rattle.counters.specs.ApplyLaws.{in-order-table, in-order-ascends}
+use Rattle.counters.proofs.RowLaws.{indices, in-order-sorted}
+use Rattle.counters.proofs.SetLaws.{behind-row}
+use Rattle.counters.proofs.ApplyLaws.{in-order-table, in-order-ascends}
 use Rattle.counter_merge.specs.Passes.{replaced, drops, hits, any_hit, mark_one, marked}
 use Rattle.counter_merge.specs.MarkLaws.{replaced-none, replaced-put, mark-indices}
 use Rattle.counter_merge.specs.WordLaws.{row_written}

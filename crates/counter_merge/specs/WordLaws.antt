@@ -11,11 +11,11 @@ use Rattle.base.specs.Logic.{pick, keep, flat, zeros}
 use Rattle.base.specs.Laws.{flat_append}
 use Rattle.base.specs.ListLaws.{keep_append}
 use Rattle.rows.specs.Table.{rows_of, table_of, Laid}
-use Rattle.rows.specs.TableLaws.{rows_of-words, length-words, length-rows_of, words-rows_of}
+use Rattle.rows.proofs.TableLaws.{rows_of-words, length-words, length-rows_of, words-rows_of}
 use Rattle.counters.specs.Counts.{Entry}
 use Rattle.counters.specs.Layout.{count_row}
-use Rattle.counters.specs.CodingLaws.{count-lawful}
-use Rattle.counters.specs.RowLaws.{from_row}
+use Rattle.counters.proofs.CodingLaws.{count-lawful}
+use Rattle.counters.proofs.RowLaws.{from_row}
 use Rattle.counters.specs.Steps.{row_at}
 use Rattle.counter_merge.specs.Passes.{stands, standing}
 

@@ -11,7 +11,7 @@ use Rattle.slices.specs.Laws.{drop-same}
 use Rattle.counters.specs.declared.CounterTransition.{CounterTransition}
 use Rattle.counters.specs.Batch.{changes, kept, named}
 use Rattle.counters.specs.Steps.{transition_at, transitions}
-use Rattle.counters.specs.StepLaws.{from-transition, no-transition}
+use Rattle.counters.proofs.StepLaws.{from-transition, no-transition}
 
 -- a transition names its index if it is kept
 module _ (x : CounterTransition) (xs : List CounterTransition) where

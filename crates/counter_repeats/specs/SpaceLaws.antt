@@ -11,7 +11,7 @@ use Rattle.base.specs.Logic.{keep, overlay, repeated, sorted_from, zeros}
 use Rattle.base.specs.Laws.{drop-zeros}
 use Rattle.base.specs.SumLaws.{length-keep}
 use Rattle.rows.specs.Table.{Laid}
-use Rattle.rows.specs.TableLaws.{length-rows_of}
+use Rattle.rows.proofs.TableLaws.{length-rows_of}
 use Rattle.counters.specs.declared.CounterTransition.{CounterTransition}
 use Rattle.counters.specs.Layout.{transition_row}
 use Rattle.counters.specs.Batch.{changes, kept, named}

@@ -5,19 +5,19 @@ use Rattle.std.proofs.Common.{◌∙◌, arith}
 use Rattle.base.specs.Logic.{keep}
 use Rattle.rows.specs.Table as rows
 use Rattle.rows.specs.Table.{rows_of}
-use Rattle.rows.specs.TableLaws.{rows_of-table, length-table, length-rows_of}
+use Rattle.rows.proofs.TableLaws.{rows_of-table, length-table, length-rows_of}
 use Rattle.counters.specs.declared.Counters.{Counters}
 use Rattle.counters.specs.declared.CounterMaintenance.{CounterMaintenance}
 use Rattle.counters.specs.Counts.{Entry}
 use Rattle.counters.specs.Maintenance.{maintained}
 use Rattle.counters.specs.Batch.{birth, death, kept, births, deaths, counts_after, state_after}
 use Rattle.counters.specs.Layout.{count_row, record_of, table_of, state_of}
-use Rattle.counters.specs.LayoutLaws.{held}
-use Rattle.counters.specs.CodingLaws.{count-lawful}
+use Rattle.counters.proofs.LayoutLaws.{held}
+use Rattle.counters.proofs.CodingLaws.{count-lawful}
 use Rattle.counters.specs.Held.{InOrder, Judged}
 use Rattle.counters.specs.Steps.{transitions}
-use Rattle.counters.specs.RowLaws.{in_order}
-use Rattle.counters.specs.ApplyLaws.{in-order-table, in-order-ascends, after-ascends}
+use Rattle.counters.proofs.RowLaws.{in_order}
+use Rattle.counters.proofs.ApplyLaws.{in-order-table, in-order-ascends, after-ascends}
 use Rattle.counter_steps.specs.Steps.{pass_of}
 use Rattle.counter_steps.specs.PassLaws.{after_less, pass_all, two-passes}
 

@@ -14,8 +14,8 @@ use Rattle.counters.specs.declared.CounterTransition.{CounterTransition}
 use Rattle.counters.specs.Counts.{Entry, set_count}
 use Rattle.counters.specs.Batch.{changes, kept, named, counts_after}
 use Rattle.counters.specs.Steps.{transition}
-use Rattle.counters.specs.ApplyLaws.{Ascends, set-ascends, set_more, set-less}
-use Rattle.counters.specs.BatchLaws.{counts_after-order}
+use Rattle.counters.proofs.ApplyLaws.{Ascends, set-ascends, set_more, set-less}
+use Rattle.counters.proofs.BatchLaws.{counts_after-order}
 use Rattle.counter_steps.specs.Steps.{leaves_row, pass_of, apply_one}
 
 -- ---- many

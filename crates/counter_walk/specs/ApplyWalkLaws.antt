@@ -10,13 +10,13 @@ use Rattle.std.proofs.Math.Dec.{ltb}
 use Rattle.base.specs.Logic.{pick}
 use Rattle.rows.specs.Table as rows
 use Rattle.rows.specs.Table.{rows_of}
-use Rattle.rows.specs.TableLaws.{rows_of-table}
+use Rattle.rows.proofs.TableLaws.{rows_of-table}
 use Rattle.counters.specs.declared.Counters.{Counters}
 use Rattle.counters.specs.declared.CounterTransition.{CounterTransition}
 use Rattle.counters.specs.Counts.{Entry}
 use Rattle.counters.specs.Layout.{count_row}
-use Rattle.counters.specs.CodingLaws.{count-lawful}
-use Rattle.counters.specs.WordLaws.{words-transitions}
+use Rattle.counters.proofs.CodingLaws.{count-lawful}
+use Rattle.counters.proofs.WordLaws.{words-transitions}
 use Rattle.counters.specs.Steps.{transition}
 use Rattle.counter_steps.specs.Steps.{apply_one}
 use Rattle.counter_steps.specs.PassLaws.{two-passes}

@@ -11,7 +11,7 @@ use Rattle.counters.specs.Counts.{Entry}
 use Rattle.counters.specs.Maintenance.{maintained}
 use Rattle.counters.specs.Batch.{kept, named, births, deaths, counts_after, state_after}
 use Rattle.counters.specs.Layout.{count_row, holds, record_of, table_of, state_of, words_of}
-use Rattle.counters.specs.WordLaws.{words-transitions}
+use Rattle.counters.proofs.WordLaws.{words-transitions}
 use Rattle.counters.specs.Held.{Judged}
 use Rattle.counters.specs.Calls.{effect, batch_call}
 use Rattle.counter_steps.specs.Steps.{pass_of}

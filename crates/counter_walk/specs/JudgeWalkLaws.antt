@@ -21,13 +21,13 @@ use Rattle.counters.specs.Counts.{Entry}
 use Rattle.counters.specs.Maintenance.{falls, rises, maintained}
 use Rattle.counters.specs.Batch.{birth, death, kept, named, unallocated, false_old, births, deaths, off_total, counts_after, state_after}
 use Rattle.counters.specs.Layout.{room_of, record_of, table_of, state_of, words_of}
-use Rattle.counters.specs.WordLaws.{words-whole, words-transitions}
+use Rattle.counters.proofs.WordLaws.{words-whole, words-transitions}
 use Rattle.counters.specs.Calls.{effect, batch_call}
 use Rattle.counters.specs.Steps.{transitions}
 use Rattle.counter_steps.specs.Steps.{pass_of}
-use Rattle.counters.specs.JudgeLaws as judge
-use Rattle.counters.specs.JudgeLaws.{judge-unallocated, judge-repeated, judge-false-old, judge-off-total, rows-after, judge-full, few-test, judge-few, judge-taken, total_of}
-use Rattle.counters.specs.RowLaws.{in_order}
+use Rattle.counters.proofs.JudgeLaws as judge
+use Rattle.counters.proofs.JudgeLaws.{judge-unallocated, judge-repeated, judge-false-old, judge-off-total, rows-after, judge-full, few-test, judge-few, judge-taken, total_of}
+use Rattle.counters.proofs.RowLaws.{in_order}
 use Rattle.counter_walk.specs.declared.Phase.{Phase}
 use Rattle.counter_walk.specs.declared.Phase.TheVariants.{Free, End}
 use Rattle.counter_walk.specs.declared.Sums.{Sums}

@@ -15,7 +15,7 @@ use Rattle.counters.specs.declared.CounterTransition.{CounterTransition}
 use Rattle.counters.specs.Batch.{changes, kept, named}
 use Rattle.counters.specs.Layout.{count_row}
 use Rattle.counters.specs.Steps.{transition}
-use Rattle.counters.specs.StepLaws.{once-none}
+use Rattle.counters.proofs.StepLaws.{once-none}
 use Rattle.counter_walk.specs.declared.Phase.TheVariants.{Look, Again}
 use Rattle.counter_walk.specs.declared.Walk.{Walk}
 use Rattle.counter_walk.specs.SumsWalkLaws.{or_assoc, or-none, elem-cons, twice-cons, sums-cons, settled-with, tallies-with, sums_none, elem-none}

@@ -4,16 +4,16 @@ use Rattle.std.specs.Prelude.{◌≡◌, refl, Bool, List, [], ◌∷◌, ℕ, s
 use Rattle.std.proofs.Common.{sym, ap, ◌∙◌, arith, add-one, drop-cons}
 use Rattle.std.proofs.Math.Seq.{drop-length}
 use Rattle.rows.specs.Table.{rows_of, table_of}
-use Rattle.rows.specs.TableLaws.{rows_of-table, length-table, table-rows_of, length-rows_of}
+use Rattle.rows.proofs.TableLaws.{rows_of-table, length-table, table-rows_of, length-rows_of}
 use Rattle.counters.specs.declared.CounterTransition.{CounterTransition}
 use Rattle.counters.specs.Counts.{Entry}
 use Rattle.counters.specs.Layout.{count_row}
-use Rattle.counters.specs.CodingLaws.{count-lawful}
+use Rattle.counters.proofs.CodingLaws.{count-lawful}
 use Rattle.counters.specs.Batch.{counts_after}
 use Rattle.counters.specs.Held.{InOrder}
 use Rattle.counters.specs.Steps.{transition}
 use Rattle.counter_steps.specs.Steps.{pass_of, apply_one}
-use Rattle.counters.specs.ApplyLaws.{in-order-table, in-order-ascends}
+use Rattle.counters.proofs.ApplyLaws.{in-order-table, in-order-ascends}
 use Rattle.counter_steps.specs.PassLaws.{one-ascends, one-fits, turn, pass-none}
 
 -- i records of bs are seen: the table has n rows, and those that are left lead from it to es

@@ -13,9 +13,9 @@ use Rattle.counters.specs.declared.CounterTransition.{CounterTransition}
 use Rattle.counters.specs.Counts.{Entry}
 use Rattle.counters.specs.Maintenance.{grown, grown_sets, falls, rises, clears, maintained}
 use Rattle.counters.specs.Batch.{changes, birth, death, kept, named, unallocated, false_old}
-use Rattle.counters.specs.StepLaws.{counted, count-one, elem-named}
-use Rattle.counters.specs.EachLaws.{each_same, each_all}
-use Rattle.counters.specs.MaintenanceLaws.{grown-at}
+use Rattle.counters.proofs.StepLaws.{counted, count-one, elem-named}
+use Rattle.counters.proofs.EachLaws.{each_same, each_all}
+use Rattle.counters.proofs.MaintenanceLaws.{grown-at}
 use Rattle.counter_walk.specs.declared.Sums.{Sums}
 use Rattle.counter_walk.specs.Walk.{sums_with}
 

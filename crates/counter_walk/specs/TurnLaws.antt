@@ -17,7 +17,7 @@ use Rattle.counters.specs.Counts.{Entry}
 use Rattle.counters.specs.Layout.{count_row, holds}
 use Rattle.counters.specs.Batch.{changes, kept, unallocated, false_old}
 use Rattle.counters.specs.Maintenance.{maintained}
-use Rattle.counters.specs.RowLaws.{in_order}
+use Rattle.counters.proofs.RowLaws.{in_order}
 use Rattle.counters.specs.Steps.{transition, transitions}
 use Rattle.counter_steps.specs.Steps.{of_kind, apply_one}
 use Rattle.counter_walk.specs.declared.Phase.{Phase}

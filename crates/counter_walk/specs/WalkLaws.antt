@@ -14,9 +14,9 @@ use Rattle.counters.specs.declared.CounterTransition.{CounterTransition}
 use Rattle.counters.specs.Layout.{holds, words_of}
 use Rattle.counters.specs.Calls.{effect, batch_call}
 use Rattle.counters.specs.Steps.{transition}
-use Rattle.counters.specs.LayoutLaws.{held}
-use Rattle.counters.specs.JudgeLaws.{judge-broken}
-use Rattle.counters.specs.RowLaws.{in_order}
+use Rattle.counters.proofs.LayoutLaws.{held}
+use Rattle.counters.proofs.JudgeLaws.{judge-broken}
+use Rattle.counters.proofs.RowLaws.{in_order}
 use Rattle.counter_walk.specs.declared.Phase.{Phase}
 use Rattle.counter_walk.specs.declared.Phase.TheVariants.{Look, Again, Free, Store}
 use Rattle.counter_walk.specs.declared.Walk.{Walk}

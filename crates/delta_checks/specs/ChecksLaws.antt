@@ -4,7 +4,7 @@ use Rattle.std.specs.Prelude.{◌≡◌, false, ◌||◌, List, map, ℕ, ◌+�
 use Rattle.std.proofs.Common.{sym, arith, lt-ltb, le-ltb}
 use Rattle.std.proofs.Math.Decide.{dec_lt}
 use Rattle.base.specs.Logic.{any, elem, repeated}
-use Rattle.rows.specs.RowLaws.{elem-hit}
+use Rattle.rows.proofs.RowLaws.{elem-hit}
 use Rattle.cell_nursery.specs.Entries.{Entry}
 use Rattle.cell_nursery.specs.SearchLaws.{index_of, index-found, index-none}
 use Rattle.delta_items.specs.Walk.{hash_in, insert_in, insert_len, inserts_from}

@@ -15,7 +15,7 @@ use Rattle.counters.specs.Counts.{stored_at, count_at, fresh}
 use Rattle.counters.specs.declared.CounterTransition.{CounterTransition}
 use Rattle.counters.specs.Batch as batches
 use Rattle.counters.specs.Batch.{kept}
-use Rattle.counters.specs.BatchLaws.{count_at-counts_after}
+use Rattle.counters.proofs.BatchLaws.{count_at-counts_after}
 use Rattle.counters.specs.Layout.{batch_of}
 use Rattle.cell_nursery.specs.Entries as entries
 use Rattle.cell_nursery.specs.Entries.{Entry, empty, insert, remove}

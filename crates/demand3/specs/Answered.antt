@@ -16,10 +16,10 @@ use Rattle.counters.specs.declared.Shrunk.{Shrunk}
 use Rattle.counters.specs.Counts as counts
 use Rattle.counters.specs.Batch.{apply_batch}
 use Rattle.counters.specs.Layout.{record_of, batch_of}
-use Rattle.counters.specs.WordLaws.{words-batch}
+use Rattle.counters.proofs.WordLaws.{words-batch}
 use Rattle.counters.specs.Calls as counters-calls
 use Rattle.counters.specs.Calls.{allocated, alloc_call, get_call, batch_call, decided}
-use Rattle.counters.specs.CallLaws.{laid_out-answer, shrink-held}
+use Rattle.counters.proofs.CallLaws.{laid_out-answer, shrink-held}
 use Rattle.snapshot.specs.Write.{snapshot_bytes}
 use Rattle.snapshot.specs.Calls.{length_call, serialize_call}
 use Rattle.cell_nursery.specs.declared.Nursery.{Nursery}

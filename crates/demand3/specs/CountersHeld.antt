@@ -14,11 +14,11 @@ use Rattle.counters.specs.Counts.{State, fresh}
 use Rattle.counters.specs.Batch.{kept, state_after, apply_batch}
 use Rattle.counters.specs.Maintenance.{in_range, adjusted, decide, shrunk}
 use Rattle.counters.specs.Layout.{record_of, table_of, with_next, with_maintenance, state_of, holds, words_of}
-use Rattle.counters.specs.LayoutLaws.{length-table_of, state_of-laid, holds-laid}
-use Rattle.counters.specs.WordLaws.{words-batch}
+use Rattle.counters.proofs.LayoutLaws.{length-table_of, state_of-laid, holds-laid}
+use Rattle.counters.proofs.WordLaws.{words-batch}
 use Rattle.counters.specs.Calls.{laid, laid_out, new_call, alloc_call, batch_call, decided, shrink_call}
-use Rattle.counters.specs.CallLaws.{new-taken, new-state, alloc-taken, alloc-state, batch-held, batch-accepted, shrink-held, shrink-state}
-use Rattle.counters.specs.RefusalLaws.{taken-state, taken-fits}
+use Rattle.counters.proofs.CallLaws.{new-taken, new-state, alloc-taken, alloc-state, batch-held, batch-accepted, shrink-held, shrink-state}
+use Rattle.counters.proofs.RefusalLaws.{taken-state, taken-fits}
 use Rattle.snapshot_laws.specs.RoundTrip.{WellFormed, well-maintained}
 use Rattle.snapshot_laws.specs.WellFormedLaws.{new-well-formed, alloc-well-formed, batch-well-formed, shrink-well-formed}
 use Rattle.node_box.specs.Box.{allocate, batch, batch_records, shrink, adjust}

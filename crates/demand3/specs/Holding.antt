@@ -15,7 +15,7 @@ use Rattle.counters.specs.Counts as counts
 use Rattle.counters.specs.Counts.{fresh}
 use Rattle.counters.specs.Maintenance.{in_range}
 use Rattle.counters.specs.Layout.{record_of, with_maintenance, words_of}
-use Rattle.counters.specs.CallLaws.{alloc-refused, batch-refused, shrink-refused, alloc-settings, batch-settings, shrink-settings}
+use Rattle.counters.proofs.CallLaws.{alloc-refused, batch-refused, shrink-refused, alloc-settings, batch-settings, shrink-settings}
 use Rattle.cell_nursery.specs.Entries as entries
 use Rattle.cell_nursery.specs.Entries.{empty}
 use Rattle.cell_nursery.specs.Layout as nursery

@@ -9,8 +9,8 @@ use Rattle.base.specs.Maybe.{maybe}
 use Rattle.base.specs.Laws.{and_left, and_right}
 use Rattle.base.specs.ListLaws.{all_keep}
 use Rattle.base.specs.SumLaws.{all_one}
-use Rattle.rows.specs.RowLaws.{all-put}
-use Rattle.rows.specs.KeyLaws.{put_rows}
+use Rattle.rows.proofs.RowLaws.{all-put}
+use Rattle.rows.proofs.KeyLaws.{put_rows}
 use Rattle.counters.specs.Counts as counts
 use Rattle.counters.specs.Counts.{fresh}
 use Rattle.counters.specs.Layout as counters

@@ -18,8 +18,8 @@ use Rattle.counters.specs.declared.CounterTransition.{CounterTransition}
 use Rattle.counters.specs.Counts as counts
 use Rattle.counters.specs.Batch.{apply_batch}
 use Rattle.counters.specs.Layout.{transition_row, batch_of}
-use Rattle.counters.specs.RefusalLaws.{ChangesUnallocated, NamesTwice, HasFalseOld, LeavesTotal, ExceedsTable, ExceedsCells}
-use Rattle.counters.specs.RefusalLaws.{allocate-spent, allocate-numbers, get-unallocated, get-numbers, batch-unallocated, batch-repeated, batch-false-old, batch-off-total, batch-table-full, batch-few, batch-numbers}
+use Rattle.counters.proofs.RefusalLaws.{ChangesUnallocated, NamesTwice, HasFalseOld, LeavesTotal, ExceedsTable, ExceedsCells}
+use Rattle.counters.proofs.RefusalLaws.{allocate-spent, allocate-numbers, get-unallocated, get-numbers, batch-unallocated, batch-repeated, batch-false-old, batch-off-total, batch-table-full, batch-few, batch-numbers}
 use Rattle.snapshot.specs.Write.{snapshot_bytes}
 use Rattle.cell_nursery.specs.Entries as entries
 use Rattle.cell_nursery.specs.Items.{Delta, delta_of}

@@ -8,7 +8,7 @@ use Rattle.slices.specs.Laws.{part-split, length_part, paste-append}
 use Rattle.slices.specs.NumberLaws.{length-be}
 use Rattle.rows.specs.declared.Wide.{Wide}
 use Rattle.rows.specs.Wide.{key_of}
-use Rattle.rows.specs.WideLaws.{Words}
+use Rattle.rows.proofs.WideLaws.{Words}
 use Rattle.cell_nursery.specs.Entries.{hash_bytes}
 use Rattle.cell_nursery.specs.Layout.{HashWords, hash_of}
 use Rattle.cell_nursery.specs.HashLaws.{hash-read, hash-written, hash-small}

@@ -3,7 +3,7 @@
 use Rattle.std.specs.Prelude.{◌≡◌, refl, List, ◌++◌, ℕ, ◌+◌, ◌-◌, ◌≤◌, length, take, drop}
 use Rattle.std.proofs.Math.Seq.{paste}
 use Rattle.slices.specs.Laws.{part-lent, length_part}
-use Rattle.rows.specs.MoveLaws.{insert-row}
+use Rattle.rows.proofs.MoveLaws.{insert-row}
 
 -- the bytes from p to e move up by a cell's length, and the cell, a part of the items, takes their place
 pub cell-in : (t items : List ℕ) (p e at len : ℕ) → p ≤ e → e + len ≤ length t → at + len ≤ length items

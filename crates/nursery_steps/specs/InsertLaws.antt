@@ -10,11 +10,11 @@ use Rattle.base.specs.Logic.{pick, elem}
 use Rattle.slices.specs.Laws.{length_part}
 use Rattle.rows.specs.declared.Wide.{Wide}
 use Rattle.rows.specs.Table.{rows_of, table_of}
-use Rattle.rows.specs.TableLaws.{rows_fit}
+use Rattle.rows.proofs.TableLaws.{rows_fit}
 use Rattle.rows.specs.Keys.{first_word, first_four, keys, place}
-use Rattle.rows.specs.KeyLaws.{place-le, length-keys}
+use Rattle.rows.proofs.KeyLaws.{place-le, length-keys}
 use Rattle.rows.specs.Wide.{key_of}
-use Rattle.rows.specs.WideLaws.{Words}
+use Rattle.rows.proofs.WideLaws.{Words}
 use Rattle.cell_nursery.specs.declared.Nursery.{Nursery}
 use Rattle.cell_nursery.specs.Entries.{Entry, cell_bytes, insert}
 use Rattle.cell_nursery.specs.Layout.{HashWords, hash_words, entry_row, entry_row_of, waiting_row_of, record_of, entries_table, waiting_table, cells_table, room_of, entries_of, state_of}

@@ -11,7 +11,7 @@ use Rattle.base.specs.Logic.{keep, zeros, sum_of}
 use Rattle.base.specs.Laws.{and_left, and_right}
 use Rattle.rows.specs.Table.{rows_of, table_of}
 use Rattle.rows.specs.Keys.{first_four, keys, place}
-use Rattle.rows.specs.KeyLaws.{key-at}
+use Rattle.rows.proofs.KeyLaws.{key-at}
 use Rattle.cell_nursery.specs.declared.Nursery.{Nursery}
 use Rattle.cell_nursery.specs.Entries.{Entry, cell_bytes, remove}
 use Rattle.cell_nursery.specs.Layout.{entry_row, entry_of, waiting_row, waiting_row_of, entry_rows, cells_of, record_of, entries_table, waiting_table, cells_table, entries_of, waiting_of, state_of, holds}

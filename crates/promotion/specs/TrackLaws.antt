@@ -12,7 +12,7 @@ use borrow.Author.Tests.{lt-ltb, le-ltb, le-leb, lt-leb, eq-eqb, ne_eqb, eqb-tru
 use Rattle.base.specs.Logic.{pick, any, elem, fold, flat, keep, repeated, ascending}
 use Rattle.base.specs.ListLaws.{or-false, fails-not, Among, here, there, some_one, some-weaker, elem-some, none_passes}
 use Rattle.base.specs.ListLaws.{keep_append, keep-swap, keep-narrow}
-use Rattle.rows.specs.KeyLaws.{put_rows}
+use Rattle.rows.proofs.KeyLaws.{put_rows}
 use Rattle.cell_nursery.specs.Entries.{Entry, Waiting, State, tied, put_waiting, insert, remove}
 use Rattle.cell_nursery.specs.Items.{Delta}
 use Rattle.cell_nursery.specs.Delta.{present, state_after}

@@ -5,12 +5,4 @@
 pub mod Table
 pub mod Keys
 pub mod Wide
-pub mod TableLaws
-pub mod KeyLaws
-pub mod SearchLaws
-pub mod MoveLaws
-pub mod PutLaws
-pub mod OrderLaws
-pub mod RowLaws
-pub mod WideLaws
 pub mod Open

@@ -13,7 +13,7 @@ use Rattle.roaring.specs.Write.{Part, before, parts, write64}
 use Rattle.roaring_rows.specs.LengthLaws.{size_of, length-write64, write64-short}
 use Rattle.counters.specs.Counts.{Entry, State, small_code, in_set, members, large}
 use Rattle.counters.specs.Layout.{sound, ordered}
-use Rattle.counters.specs.MaintenanceLaws.{set-or-large}
+use Rattle.counters.proofs.MaintenanceLaws.{set-or-large}
 use Rattle.snapshot.specs.Write.{set_bytes, snapshot_bytes}
 use Rattle.snapshot.specs.LengthLaws.{length-set_bytes, length-snapshot}
 use Rattle.snapshot_laws.specs.RoundTrip.{WellFormed}

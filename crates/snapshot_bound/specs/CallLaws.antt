@@ -8,14 +8,14 @@ use Rattle.base.specs.Answers.{taken}
 use Rattle.base.specs.Output.{written}
 use Rattle.base.specs.declared.Answer.TheVariants.{Refused}
 use Rattle.base.specs.declared.Refusal.TheVariants.{OutputFull}
-use Rattle.rows.specs.TableLaws.{length-rows_of}
+use Rattle.rows.proofs.TableLaws.{length-rows_of}
 use Rattle.counters.specs.declared.ShrinkSettings.{ShrinkSettings}
 use Rattle.counters.specs.declared.Counters.{Counters}
 use Rattle.counters.specs.Counts.{State}
 use Rattle.counters.specs.Maintenance.{in_range}
 use Rattle.counters.specs.Layout.{count_row, record_of, table_of, state_of, holds}
-use Rattle.counters.specs.LayoutLaws.{state_of-laid, holds-laid}
-use Rattle.counters.specs.CallLaws.{on_state-held, on_state-broken}
+use Rattle.counters.proofs.LayoutLaws.{state_of-laid, holds-laid}
+use Rattle.counters.proofs.CallLaws.{on_state-held, on_state-broken}
 use Rattle.snapshot.specs.Write.{snapshot_bytes}
 use Rattle.snapshot.specs.Calls.{length_call, serialize_call}
 use Rattle.snapshot_laws.specs.CallLaws.{serialize-full}

@@ -23,15 +23,15 @@ use Rattle.base.specs.declared.Answer.{Answer}
 use Rattle.base.specs.Output.{Written, fitting, put, written}
 use Rattle.base.specs.declared.Answer.TheVariants.{Taken, Refused}
 use Rattle.rows.specs.Table.{rows_of}
-use Rattle.rows.specs.TableLaws.{length-rows_of}
+use Rattle.rows.proofs.TableLaws.{length-rows_of}
 use Rattle.counters.specs.declared.ShrinkSettings.{ShrinkSettings}
 use Rattle.counters.specs.declared.Counters.{Counters}
 use Rattle.counters.specs.Counts.{State}
 use Rattle.counters.specs.Maintenance.{in_range}
 use Rattle.counters.specs.Layout.{count_row, room_of, record_of, state_of, holds}
-use Rattle.counters.specs.LayoutLaws.{held, length-table_of, state_of-laid, holds-laid}
+use Rattle.counters.proofs.LayoutLaws.{held, length-table_of, state_of-laid, holds-laid}
 use Rattle.counters.specs.Calls.{on_state, laid, laid_out, with_settings, no_counters, laid_in}
-use Rattle.counters.specs.CallLaws.{on_state-held, on_state-broken, broken-exactly, on_state-numbers, with-ranged, with-other, with-setting, with-numbers, laid_out-answer, laid_out-refused}
+use Rattle.counters.proofs.CallLaws.{on_state-held, on_state-broken, broken-exactly, on_state-numbers, with-ranged, with-other, with-setting, with-numbers, laid_out-answer, laid_out-refused}
 use Rattle.snapshot.specs.Write.{snapshot_bytes}
 use Rattle.snapshot.specs.Read.{read_snapshot}
 use Rattle.snapshot.specs.Calls.{length_call, serialize_call, deserialize_call}

@@ -20,10 +20,10 @@ use Rattle.counters.specs.Counts.{State}
 use Rattle.counters.specs.Maintenance.{in_range}
 use Rattle.counters.specs.Batch.{bound}
 use Rattle.counters.specs.Layout.{room_of, record_of, table_of, state_of, ordered, holds}
-use Rattle.counters.specs.LayoutLaws.{held, length-table_of, state_of-laid, holds-laid}
-use Rattle.counters.specs.BoundLaws.{bound-other, bound-few}
+use Rattle.counters.proofs.LayoutLaws.{held, length-table_of, state_of-laid, holds-laid}
+use Rattle.counters.proofs.BoundLaws.{bound-other, bound-few}
 use Rattle.counters.specs.Calls.{laid, laid_out, with_settings, no_counters, laid_in}
-use Rattle.counters.specs.CallLaws.{with-ranged, with-then, with-other, with-setting, with-numbers}
+use Rattle.counters.proofs.CallLaws.{with-ranged, with-then, with-other, with-setting, with-numbers}
 use Rattle.snapshot.specs.Write.{snapshot_bytes}
 use Rattle.snapshot.specs.Read.{parse_snapshot, read_snapshot, raised}
 use Rattle.snapshot.specs.Calls.{deserialize_call, Loading, load_effect, load_call}

@@ -21,7 +21,7 @@ use Rattle.base.specs.Answers.{taken}
 use Rattle.roaring.specs.Read.{parse64}
 use Rattle.roaring.specs.MemberLaws.{members-ascend}
 use Rattle.counters.specs.Counts.{Entry, State, stored_at, count_at}
-use Rattle.counters.specs.CountLaws.{stored_at-set_count}
+use Rattle.counters.proofs.CountLaws.{stored_at-set_count}
 use Rattle.snapshot.specs.Read.{parse_snapshot, read_snapshot}
 use Rattle.snapshot_laws.specs.SetLaws.{index, set_row, stored-before, stored-rows}
 use Rattle.snapshot_laws.specs.SmallLaws.{count-lay_bit}

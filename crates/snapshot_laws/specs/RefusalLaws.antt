@@ -27,7 +27,7 @@ use Rattle.base.specs.declared.Refusal.TheVariants.{TableFull, Version, TornSnap
 use Rattle.slices.specs.NumberLaws.{cut_at, cut_short, read_le-at, read_le-short}
 use Rattle.roaring.specs.Read.{parse64}
 use Rattle.counters.specs.Counts.{Entry, State, stored_at, fresh_maintenance}
-use Rattle.counters.specs.BoundLaws.{bound-other, bound-few, bound-taken, bound-numbers}
+use Rattle.counters.proofs.BoundLaws.{bound-other, bound-few, bound-taken, bound-numbers}
 use Rattle.snapshot.specs.Read.{lay_bit, read_sets, read_large, joined, parse_snapshot, read_snapshot}
 use Rattle.snapshot_laws.specs.SetLaws.{index, set_row}
 use Rattle.snapshot_laws.specs.StoredLaws.{two, stored_some, any-stored, rows-stored, lay_bit-stored, rows-two, lay_bit-two, rows-ascend, lay_bit-ascends}

@@ -18,8 +18,8 @@ use Rattle.base.specs.OutcomeLaws.{taken-same}
 use Rattle.counters.specs.declared.CounterMaintenance.{CounterMaintenance}
 use Rattle.counters.specs.Counts.{Entry, State, stored_at, count_at, small_code, large, fresh_maintenance}
 use Rattle.counters.specs.Layout.{sound, ordered}
-use Rattle.counters.specs.CountLaws.{stored-two, same-counts}
-use Rattle.counters.specs.BoundLaws.{bound-taken}
+use Rattle.counters.proofs.CountLaws.{stored-two, same-counts}
+use Rattle.counters.proofs.BoundLaws.{bound-taken}
 use Rattle.snapshot.specs.Write.{set_bytes, large_bytes, snapshot_bytes}
 use Rattle.snapshot.specs.Read.{joined, parse_snapshot, read_snapshot}
 use Rattle.snapshot_laws.specs.SetLaws.{index, set_row, ascends, sounds, all-below, all_two, ordered-keep, stored-before, stored-keep, stored-rows, ordered-rows, rows-again}

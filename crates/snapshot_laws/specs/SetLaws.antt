@@ -11,7 +11,7 @@ use Rattle.base.specs.Laws.{and_left, and_right, and_both, ascending-head, ascen
 use Rattle.base.specs.ListLaws.{all_weaker, all_keep, ascending-keep, eqb-sym}
 use Rattle.counters.specs.Counts.{Entry, stored_at, set_count}
 use Rattle.counters.specs.Layout.{sound, ordered}
-use Rattle.counters.specs.CountLaws.{stored_here, stored_other, ordered-set_count, same-stored}
+use Rattle.counters.proofs.CountLaws.{stored_here, stored_other, ordered-set_count, same-stored}
 
 -- a row's index; and its count set at its index
 abbrev pub index : Entry → ℕ

@@ -16,7 +16,7 @@ use Rattle.base.specs.ListLaws.{all_keep, ascending-keep}
 use Rattle.base.specs.SumLaws.{all_map}
 use Rattle.counters.specs.Counts.{Entry, stored_at, count_at, set_count, small_code, in_set, members}
 use Rattle.counters.specs.Layout.{ordered}
-use Rattle.counters.specs.CountLaws.{count_at-set_count, ordered-set_count}
+use Rattle.counters.proofs.CountLaws.{count_at-set_count, ordered-set_count}
 use Rattle.snapshot.specs.Read.{lay_bit}
 use Rattle.snapshot_laws.specs.SetLaws.{index, ascends, all-below, elem-keep, ordered-none}
 

@@ -12,11 +12,11 @@ use Rattle.std.proofs.Math.Dec.{eqb}
 use Rattle.base.specs.Logic.{pick, all, any, fold, elem, ascending_from}
 use Rattle.base.specs.Laws.{and_left, and_right}
 use Rattle.base.specs.ListLaws.{eqb-eq, Some, here, there, some-weaker, any_some}
-use Rattle.rows.specs.RowLaws.{all-put}
-use Rattle.rows.specs.KeyLaws.{put_rows}
+use Rattle.rows.proofs.RowLaws.{all-put}
+use Rattle.rows.proofs.KeyLaws.{put_rows}
 use Rattle.counters.specs.Counts.{Entry, stored_at, count_at, row_of, set_count}
-use Rattle.counters.specs.CountLaws.{stored_at-set_count}
-use Rattle.counters.specs.ApplyLaws.{set-ascends}
+use Rattle.counters.proofs.CountLaws.{stored_at-set_count}
+use Rattle.counters.proofs.ApplyLaws.{set-ascends}
 use Rattle.snapshot.specs.Read.{lay_bit}
 use Rattle.snapshot_laws.specs.SetLaws.{index, set_row}
 

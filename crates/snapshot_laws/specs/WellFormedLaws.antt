@@ -13,8 +13,8 @@ use Rattle.base.specs.declared.Refusal.TheVariants.{Spent, Broken}
 use Rattle.base.specs.declared.Answer.{Answer}
 use Rattle.base.specs.declared.Answer.TheVariants.{Taken, Refused}
 use Rattle.rows.specs.Table.{rows_of}
-use Rattle.rows.specs.RowLaws.{all-put}
-use Rattle.rows.specs.KeyLaws.{put_rows}
+use Rattle.rows.proofs.RowLaws.{all-put}
+use Rattle.rows.proofs.KeyLaws.{put_rows}
 use Rattle.counters.specs.declared.ShrinkSettings.{ShrinkSettings}
 use Rattle.counters.specs.declared.Counters.{Counters}
 use Rattle.counters.specs.declared.CounterTransition.{CounterTransition}
@@ -24,9 +24,9 @@ use Rattle.counters.specs.Batch.{changes, kept, counts_after, state_after, apply
 use Rattle.counters.specs.Maintenance.{in_range, decide, shrunk}
 use Rattle.counters.specs.Layout.{count_row, transition_row, room_of, with_next, state_of, holds, batch_of}
 use Rattle.counters.specs.Calls.{new_call, alloc_call, batch_call, shrink_call}
-use Rattle.counters.specs.RefusalLaws.{allocate-spent, taken-state, taken_next, taken-ordered, taken_live, bounded-after}
-use Rattle.counters.specs.CallLaws.{new-state, alloc-answer, alloc-taken, alloc-refused, batch-refused, batch-accepted, shrink-state, shrink-broken, shrink-refused}
-use Rattle.counters.specs.CountLaws.{ordered-more}
+use Rattle.counters.proofs.RefusalLaws.{allocate-spent, taken-state, taken_next, taken-ordered, taken_live, bounded-after}
+use Rattle.counters.proofs.CallLaws.{new-state, alloc-answer, alloc-taken, alloc-refused, batch-refused, batch-accepted, shrink-state, shrink-broken, shrink-refused}
+use Rattle.counters.proofs.CountLaws.{ordered-more}
 use Rattle.snapshot_laws.specs.SetLaws.{ordered-none}
 use Rattle.snapshot_laws.specs.RoundTrip.{WellFormed, well-maintained}
 use Rattle.snapshot_laws.specs.CallLaws.{word-passes}

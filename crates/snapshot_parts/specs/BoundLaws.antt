@@ -16,7 +16,7 @@ use Rattle.base.specs.Laws.{and_left, and_right, length_digits}
 use Rattle.base.specs.ListLaws.{all_keep, all_weaker, ascending-keep, length-flat-even}
 use Rattle.base.specs.SumLaws.{all_map, sum_of-even, sum_of-le, sum_of-times}
 use Rattle.rows.specs.Table.{rows_of}
-use Rattle.rows.specs.TableLaws.{length-rows_of}
+use Rattle.rows.proofs.TableLaws.{length-rows_of}
 use Rattle.roaring.specs.ContainerLaws.{container_length-twice}
 use Rattle.roaring.specs.Write.{parts, write64, container_length}
 use Rattle.roaring.specs.PartLaws.{few-parts}
@@ -24,8 +24,8 @@ use Rattle.roaring_rows.specs.LengthLaws.{length-write64, members-parts}
 use Rattle.counters.specs.declared.Counters.{Counters}
 use Rattle.counters.specs.Counts.{Entry, in_set, members, large}
 use Rattle.counters.specs.Layout.{count_row, sound, ordered, state_of, holds}
-use Rattle.counters.specs.LayoutLaws.{held}
-use Rattle.counters.specs.MaintenanceLaws.{large-count}
+use Rattle.counters.proofs.LayoutLaws.{held}
+use Rattle.counters.proofs.MaintenanceLaws.{large-count}
 use Rattle.snapshot.specs.Write.{set_bytes, large_bytes, snapshot_bytes}
 use Rattle.snapshot_parts.specs.PartLaws.{length-snapshot}
 

@@ -13,7 +13,7 @@ use Rattle.base.specs.Bytes.{le64}
 use Rattle.base.specs.Laws.{length_digits}
 use Rattle.slices.specs.Laws.{paste-prepend, paste-one}
 use Rattle.rows.specs.Table.{rows_of}
-use Rattle.rows.specs.TableLaws.{length-rows_of}
+use Rattle.rows.proofs.TableLaws.{length-rows_of}
 use Rattle.roaring_rows.specs.RowMembers as row
 use Rattle.roaring_rows.specs.RowLaws.{members-rows}
 use Rattle.roaring.specs.Write.{write64}
@@ -23,7 +23,7 @@ use Rattle.roaring_rows.specs.DataLaws.{put-digits}
 use Rattle.counters.specs.declared.Counters.{Counters}
 use Rattle.counters.specs.Counts.{small_code, in_set, members, large}
 use Rattle.counters.specs.Layout.{count_row, state_of}
-use Rattle.counters.specs.RowLaws.{from_row}
+use Rattle.counters.proofs.RowLaws.{from_row}
 use Rattle.snapshot.specs.Write.{set_bytes, large_bytes, snapshot_bytes}
 use Rattle.snapshot_parts.specs.Parts.{sets_from, large_from}
 

@@ -13,16 +13,16 @@ use Rattle.base.specs.declared.Refusal.TheVariants.{FewCells, BadSetting}
 use Rattle.base.specs.declared.Answer.TheVariants.{Taken, Refused}
 use Rattle.slices.specs.Laws.{paste-start, paste-right, paste-two}
 use Rattle.rows.specs.Table.{table_of}
-use Rattle.rows.specs.TableLaws.{rows_of-table, length-table, laid_table, inserted}
+use Rattle.rows.proofs.TableLaws.{rows_of-table, length-table, laid_table, inserted}
 use Rattle.counters.specs.declared.ShrinkSettings.{ShrinkSettings}
 use Rattle.counters.specs.declared.Counters.{Counters}
 use Rattle.counters.specs.Counts.{Entry, fresh_maintenance, fresh}
 use Rattle.counters.specs.Layout as layout
 use Rattle.counters.specs.Layout.{count_row, room_of, record_of}
-use Rattle.counters.specs.CodingLaws.{count-lawful}
+use Rattle.counters.proofs.CodingLaws.{count-lawful}
 use Rattle.counters.specs.Batch.{bound}
 use Rattle.counters.specs.Calls.{Changed, laid, laid_out, effect, record_effect, no_counters, laid_in}
-use Rattle.counters.specs.CallLaws.{with-ranged, with-bad}
+use Rattle.counters.proofs.CallLaws.{with-ranged, with-bad}
 use Rattle.counters.specs.Maintenance.{in_range}
 use Rattle.snapshot.specs.Read.{parse_snapshot, read_snapshot, raised}
 use Rattle.snapshot.specs.Calls.{deserialize_call, load_effect, load_call}

@@ -14,7 +14,7 @@ use Rattle.base.specs.ListLaws.{or-false, all_weaker, keep-empty, keep_append, k
 use Rattle.base.specs.Bytes.{unle}
 use Rattle.base.specs.Answers.{Outcome, taken, ◌>>◌, refuse_if}
 use Rattle.base.specs.declared.Refusal.TheVariants.{BadLarge}
-use Rattle.rows.specs.KeyLaws.{put_rows}
+use Rattle.rows.proofs.KeyLaws.{put_rows}
 use Rattle.counters.specs.Counts.{Entry, row_of, set_count}
 use Rattle.snapshot.specs.Read.{read_large}
 use Rattle.snapshot_tiers.specs.declared.Head.{Head}

@@ -8,7 +8,7 @@ use Rattle.base.specs.Logic.{fold, ascending_from}
 use Rattle.base.specs.Laws.{ascending-head, ascending-tail, ascending-lower}
 use Rattle.base.specs.Bytes.{unle}
 use Rattle.rows.specs.Keys.{place}
-use Rattle.rows.specs.KeyLaws.{place-lt, place-ge}
+use Rattle.rows.proofs.KeyLaws.{place-lt, place-ge}
 use Rattle.counters.specs.Counts.{Entry}
 use Rattle.snapshot_tiers.specs.declared.Head.{Head}
 use Rattle.snapshot_tiers.specs.Heads.{idxs_of, no_head, raw_of, lower_from}

@@ -13,8 +13,8 @@ use borrow.Author.Tests.{le-leb, lt-leb, le-ltb, lt-ltb, leb-true, eqb-true, eqb
 use Rattle.base.specs.Logic.{pick, all, keep, fold, ascending_from}
 use Rattle.base.specs.Laws.{and_left, and_right, and_both, ascending-head, ascending-tail, ascending-lower}
 use Rattle.base.specs.ListLaws.{keep-whole, keep-empty}
-use Rattle.rows.specs.RowLaws.{all-put}
-use Rattle.rows.specs.KeyLaws.{put_rows}
+use Rattle.rows.proofs.RowLaws.{all-put}
+use Rattle.rows.proofs.KeyLaws.{put_rows}
 use Rattle.counters.specs.Counts.{Entry, stored_at, count_at, row_of, set_count}
 use Rattle.snapshot.specs.Read.{lay_bit}
 use Rattle.snapshot_tiers.specs.Payloads.{lay_all}

@@ -10,7 +10,7 @@ use Rattle.counters.specs.Counts.{Entry, fresh_maintenance}
 use Rattle.counters.specs.declared.Counters.{Counters}
 use Rattle.counters.specs.Maintenance.{standard}
 use Rattle.counters.specs.Layout.{count_row, record_of, table_of}
-use Rattle.counters.specs.RowLaws.{row-behind}
+use Rattle.counters.proofs.RowLaws.{row-behind}
 use Rattle.snapshot_bound.specs.Bound.{spaced, next_after, worst}
 
 -- ---- the table

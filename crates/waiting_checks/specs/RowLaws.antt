@@ -8,9 +8,9 @@ use borrow.Author.Tests.{le-leb, lt-leb, le-ltb, lt-ltb, eq-eqb, ne_eqb}
 use Rattle.base.specs.Logic.{sorted_from}
 use Rattle.base.specs.Laws.{ascending-sorted}
 use Rattle.rows.specs.Table.{rows_of}
-use Rattle.rows.specs.TableLaws.{length-rows_of}
+use Rattle.rows.proofs.TableLaws.{length-rows_of}
 use Rattle.rows.specs.Keys.{first_four, keys, place}
-use Rattle.rows.specs.KeyLaws.{length-keys, key-at, place-le, place_at, place_up, place_down}
+use Rattle.rows.proofs.KeyLaws.{length-keys, key-at, place-le, place_at, place_up, place_down}
 use Rattle.cell_nursery.specs.declared.Nursery.{Nursery}
 use Rattle.cell_nursery.specs.Layout.{hash_of, WaitingRow, waiting_row}
 use Rattle.cell_nursery.specs.LayoutLaws.{EntriesHeld}

@@ -14,9 +14,9 @@ use Rattle.base.specs.Laws.{and_left, and_right, ascending-head, ascending-tail}
 use Rattle.base.specs.ListLaws.{any-map}
 use Rattle.base.specs.SumLaws.{all_map}
 use Rattle.rows.specs.Table.{rows_of}
-use Rattle.rows.specs.TableLaws.{length-rows_of}
+use Rattle.rows.proofs.TableLaws.{length-rows_of}
 use Rattle.rows.specs.Keys.{first_four, keys, place}
-use Rattle.rows.specs.KeyLaws.{place-lt, place-ge}
+use Rattle.rows.proofs.KeyLaws.{place-lt, place-ge}
 use Rattle.cell_nursery.specs.declared.Nursery.{Nursery}
 use Rattle.cell_nursery.specs.Entries.{names, tied}
 use Rattle.cell_nursery.specs.Layout.{hash_of, entry_row, WaitingRow, waiting_row, entry_of, waiter_of, entries_of, waiting_of, state_of}

@@ -22,8 +22,8 @@ use Rattle.counters.specs.Batch.{apply_batch}
 use Rattle.counters.specs.Maintenance.{in_range}
 use Rattle.counters.specs.Layout.{room_of, holds, batch_of}
 use Rattle.counters.specs.Calls.{Changed, on_state, laid, laid_out, laid_in, new_call, allocated, alloc_call, get_call, batch_call, decided, shrink_call}
-use Rattle.counters.specs.CallLaws as calls
-use Rattle.counters.specs.CallLaws.{with-numbers, alloc-holds, batch-holds, shrink-holds}
+use Rattle.counters.proofs.CallLaws as calls
+use Rattle.counters.proofs.CallLaws.{with-numbers, alloc-holds, batch-holds, shrink-holds}
 use Rattle.snapshot.specs.Write.{snapshot_bytes}
 use Rattle.snapshot.specs.Read.{read_snapshot}
 use Rattle.snapshot.specs.Calls.{serialize_call, deserialize_call, Loading, load_call, length_call}

@@ -4,7 +4,7 @@ use native.Mathlib.Omega.{arith}
 use borrow.Author.Rules.{rules}
 use Rattle.counters.specs.Batch.{kept}
 use Rattle.counters.specs.Steps.{transitions}
-use Rattle.counters.specs.JudgeLaws.{total-within}
+use Rattle.counters.proofs.JudgeLaws.{total-within}
 use Rattle.counter_steps.specs.KeptLaws.{first-order, second-order, second_fits, record-after, table-after}
 use Rattle.counter_apply.specs.RoomLaws.{judged-stand}
 use Rattle.counter_apply.proofs.apply_kept.Statement.{statement}

@@ -3,7 +3,7 @@
 use mathlib.Core.Path.{sym, ◌∙◌}
 use borrow.Author.Rules.{rules}
 use borrow.Author.Tests.{not-true, not-false}
-use Rattle.counters.specs.JudgeLaws.{judge-broken}
+use Rattle.counters.proofs.JudgeLaws.{judge-broken}
 use Rattle.counter_batch.proofs.apply_batch.Statement.{statement}
 use Rattle.counter_batch.proofs.apply_batch.Tie as tie
 

@@ -4,8 +4,8 @@ use mathlib.Core.Path.{sym, ap, ◌∙◌}
 use mathlib.Core.List.{List}
 use Prim.Native.Nat.{ℕ}
 use borrow.Author.Rules.{rules}
-use Rattle.counters.specs.RowLaws.{in_order}
-use Rattle.counters.specs.JudgeLaws.{judge-ragged, judge-unallocated, judge-repeated}
+use Rattle.counters.proofs.RowLaws.{in_order}
+use Rattle.counters.proofs.JudgeLaws.{judge-ragged, judge-unallocated, judge-repeated}
 use Rattle.counters.specs.Calls.{batch_call}
 use Rattle.counter_batch.proofs.apply_batch_held.Statement.{statement}
 use Rattle.counter_batch.proofs.apply_batch_held.Tie as tie

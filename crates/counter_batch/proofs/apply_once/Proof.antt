@@ -3,9 +3,9 @@
 use mathlib.Core.Path.{sym, ◌∙◌}
 use native.Mathlib.Omega.{arith}
 use borrow.Author.Rules.{rules}
-use Rattle.counters.specs.RowLaws.{in_order}
-use Rattle.counters.specs.StepLaws.{total_left}
-use Rattle.counters.specs.JudgeLaws.{judge-false-old, judge-off-total, judge-full, judge-few, judge-taken, judged, room-test, room-asks, few-test, total_of}
+use Rattle.counters.proofs.RowLaws.{in_order}
+use Rattle.counters.proofs.StepLaws.{total_left}
+use Rattle.counters.proofs.JudgeLaws.{judge-false-old, judge-off-total, judge-full, judge-few, judge-taken, judged, room-test, room-asks, few-test, total_of}
 use Rattle.counters.specs.Batch.{kept}
 use Rattle.counters.specs.Steps.{transitions}
 use Rattle.counter_batch.proofs.apply_once.Statement.{statement}

@@ -9,7 +9,7 @@ use Rattle.rows.specs.Table.{rows_of}
 use Rattle.counters.specs.Layout.{count_row}
 use Rattle.counters.specs.Batch.{kept, false_old}
 use Rattle.counters.specs.Steps.{transition_at, transitions}
-use Rattle.counters.specs.StepLaws.{in-batch, from-transition, no-transition, any-passed, any-decided, any_none}
+use Rattle.counters.proofs.StepLaws.{in-batch, from-transition, no-transition, any-passed, any-decided, any_none}
 use Rattle.counter_checks.proofs.any_false_old.Statement.{statement}
 use Rattle.counter_checks.proofs.any_false_old.Tie as tie
 

@@ -8,7 +8,7 @@ use lib.ListN.{length, drop}
 use Rattle.base.specs.Logic.{elem, repeated}
 use Rattle.counters.specs.Batch.{changes, kept, named}
 use Rattle.counters.specs.Steps.{transition_at, transitions}
-use Rattle.counters.specs.StepLaws.{from-transition, no-transition, once-passed, twice-decided, once-none}
+use Rattle.counters.proofs.StepLaws.{from-transition, no-transition, once-passed, twice-decided, once-none}
 use Rattle.counter_checks.proofs.any_repeated.Statement.{statement}
 use Rattle.counter_checks.proofs.any_repeated.Tie as tie
 

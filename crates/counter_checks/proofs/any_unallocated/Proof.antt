@@ -7,7 +7,7 @@ use lib.ListN.{length, drop}
 use Rattle.base.specs.Logic.{any}
 use Rattle.counters.specs.Batch.{kept, unallocated}
 use Rattle.counters.specs.Steps.{transition_at, transitions}
-use Rattle.counters.specs.StepLaws.{in-batch, from-transition, no-transition, any-passed, any-decided, any_none}
+use Rattle.counters.proofs.StepLaws.{in-batch, from-transition, no-transition, any-passed, any-decided, any_none}
 use Rattle.counter_checks.proofs.any_unallocated.Statement.{statement}
 use Rattle.counter_checks.proofs.any_unallocated.Tie as tie
 

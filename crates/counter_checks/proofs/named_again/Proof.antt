@@ -5,7 +5,7 @@ use lib.ListN.{drop}
 use Rattle.base.specs.Logic.{elem}
 use Rattle.counters.specs.Batch.{kept, named}
 use Rattle.counters.specs.Steps.{transition_at, transitions}
-use Rattle.counters.specs.StepLaws.{in-batch, unchanged, changed}
+use Rattle.counters.proofs.StepLaws.{in-batch, unchanged, changed}
 use Rattle.counter_checks.proofs.named_again.Statement.{statement}
 use Rattle.counter_checks.proofs.named_again.Tie as tie
 

@@ -8,7 +8,7 @@ use lib.ListN.{length, drop}
 use Rattle.base.specs.Logic.{any, elem}
 use Rattle.counters.specs.Batch.{kept, named}
 use Rattle.counters.specs.Steps.{transition_at, transitions}
-use Rattle.counters.specs.StepLaws.{in-batch, from-transition, no-transition, any-passed, any-decided, elem-named, any_none}
+use Rattle.counters.proofs.StepLaws.{in-batch, from-transition, no-transition, any-passed, any-decided, elem-named, any_none}
 use Rattle.counter_checks.proofs.named_from.Statement.{statement}
 use Rattle.counter_checks.proofs.named_from.Tie as tie
 

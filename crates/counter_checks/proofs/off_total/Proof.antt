@@ -1,5 +1,5 @@
 use native.Mathlib.Omega.{arith}
-use Rattle.counters.specs.StepLaws.{total-over, total-fits}
+use Rattle.counters.proofs.StepLaws.{total-over, total-fits}
 use Rattle.counter_checks.proofs.off_total.Statement.{statement}
 use Rattle.counter_checks.proofs.off_total.Tie as tie
 

@@ -1,7 +1,7 @@
 use mathlib.Core.Path.{sym, ◌∙◌}
 use borrow.Author.Rules.{rules}
 use borrow.Author.Tests.{not-true, not-false}
-use Rattle.counters.specs.ReadLaws.{get-broken-table}
+use Rattle.counters.proofs.ReadLaws.{get-broken-table}
 use Rattle.counter_lookup.proofs.get.Statement.{statement}
 use Rattle.counter_lookup.proofs.get.Tie as tie
 

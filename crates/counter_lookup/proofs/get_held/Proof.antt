@@ -1,6 +1,6 @@
 use native.Mathlib.Omega.{arith}
-use Rattle.counters.specs.RowLaws.{in_order}
-use Rattle.counters.specs.ReadLaws.{get-far, get-count}
+use Rattle.counters.proofs.RowLaws.{in_order}
+use Rattle.counters.proofs.ReadLaws.{get-far, get-count}
 use Rattle.counter_lookup.proofs.get_held.Statement.{statement}
 use Rattle.counter_lookup.proofs.get_held.Tie as tie
 

@@ -1,6 +1,6 @@
 use native.Mathlib.Omega.{arith}
 use borrow.Author.Rules.{rules}
-use Rattle.counters.specs.RowLaws.{in-order-sorted}
+use Rattle.counters.proofs.RowLaws.{in-order-sorted}
 use Rattle.counter_merge.specs.TableLaws.{replaced-past, row-there}
 use Rattle.counter_merge.proofs.has_row.Statement.{statement}
 use Rattle.counter_merge.proofs.has_row.Tie as tie

@@ -11,7 +11,7 @@ use Rattle.rows.specs.Keys.{keys, first_word}
 use Rattle.counters.specs.Layout.{count_row}
 use Rattle.counters.specs.Held.{InOrder}
 use Rattle.counters.specs.Steps.{transition_at, transitions}
-use Rattle.counters.specs.StepLaws.{in-batch, from-transition, no-transition}
+use Rattle.counters.proofs.StepLaws.{in-batch, from-transition, no-transition}
 use Rattle.counter_merge.specs.TableLaws.{mark-same, mark-turn, hit-turn, mark-done}
 use Rattle.counter_merge.specs.Passes.{marked, any_hit, hits}
 use Rattle.counter_merge.proofs.mark.Statement.{statement}

@@ -6,7 +6,7 @@ use borrow.Author.Rules.{rules}
 use lib.ListN.{length, drop}
 use Rattle.rows.specs.Keys.{keys, first_word}
 use Rattle.counters.specs.Steps.{transition_at, transitions}
-use Rattle.counters.specs.StepLaws.{in-batch, from-transition, no-transition}
+use Rattle.counters.proofs.StepLaws.{in-batch, from-transition, no-transition}
 use Rattle.counter_merge.specs.Passes.{is_new, new_rows}
 use Rattle.counter_merge.specs.AsideLaws.{new-more, new_none, new-one}
 use Rattle.counter_merge.proofs.new_rows.Statement.{statement}

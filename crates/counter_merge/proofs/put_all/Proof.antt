@@ -9,7 +9,7 @@ use Rattle.rows.specs.Table.{rows_of}
 use Rattle.rows.specs.Keys.{keys, first_word}
 use Rattle.counters.specs.Layout.{count_row}
 use Rattle.counters.specs.Steps.{transition_at, transitions}
-use Rattle.counters.specs.StepLaws.{in-batch, from-transition, no-transition}
+use Rattle.counters.proofs.StepLaws.{in-batch, from-transition, no-transition}
 use Rattle.counter_merge.specs.Passes.{new_rows, fronts, back_one, backs}
 use Rattle.counter_merge.specs.Halves.{Halves}
 use Rattle.counter_merge.specs.AsideLaws.{room_for, room-left, no_rows, put-more, put-size, put-halves, put-keys, put-fronts, put-backs, front-turn, back-turn, put-done}

@@ -1,6 +1,6 @@
 use native.Mathlib.Omega.{arith}
 use borrow.Author.Rules.{rules}
-use Rattle.counters.specs.RowLaws.{in-order-sorted}
+use Rattle.counters.proofs.RowLaws.{in-order-sorted}
 use Rattle.counter_merge.specs.TableLaws.{replaced-here, replaced-miss, replaced-past}
 use Rattle.counter_merge.proofs.replace.Statement.{statement}
 use Rattle.counter_merge.proofs.replace.Tie as tie

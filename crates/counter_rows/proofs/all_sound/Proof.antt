@@ -1,7 +1,7 @@
 use Rattle.base.specs.Logic.{all}
 use Rattle.rows.specs.Table.{rows_of}
 use Rattle.counters.specs.Layout.{count_row, sound}
-use Rattle.counters.specs.RowLaws.{all-next, all-not, all_end, sound-row, far-row, low-row}
+use Rattle.counters.proofs.RowLaws.{all-next, all-not, all_end, sound-row, far-row, low-row}
 use mathlib.Core.Path.{◌≡◌, sym, ◌∙◌}
 use Prim.Native.Nat.{◌+◌, ◌-◌, ◌*◌, ◌≤◌}
 use native.Mathlib.Omega.{arith}

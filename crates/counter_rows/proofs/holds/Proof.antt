@@ -1,7 +1,7 @@
 -- `counter_rows::holds`: a test after the other, those that need no pass first.
 -- Assumes nothing.
-use Rattle.rows.specs.TableLaws.{holds-laid}
-use Rattle.counters.specs.RowLaws.{holds-not-ranged, holds-few, holds-not-rows, holds-not-order, holds-sound}
+use Rattle.rows.proofs.TableLaws.{holds-laid}
+use Rattle.counters.proofs.RowLaws.{holds-not-ranged, holds-few, holds-not-rows, holds-not-order, holds-sound}
 use mathlib.Core.Path.{sym, ◌∙◌}
 use native.Mathlib.Omega.{arith}
 use borrow.Author.Rules.{rules}

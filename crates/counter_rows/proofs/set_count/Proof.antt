@@ -1,7 +1,7 @@
 use mathlib.Core.Logic.{⊎_elim}
 use Rattle.rows.specs.Keys.{keys, first_word, place}
-use Rattle.counters.specs.RowLaws.{in-order-sorted}
-use Rattle.counters.specs.SetLaws.{place-within, behind-none, behind-all, set-replaced, set-removed, set-inserted, set-kept, room-more}
+use Rattle.counters.proofs.RowLaws.{in-order-sorted}
+use Rattle.counters.proofs.SetLaws.{place-within, behind-none, behind-all, set-replaced, set-removed, set-inserted, set-kept, room-more}
 use mathlib.Core.Path.{◌≡◌}
 use Prim.Native.Nat.{suc}
 use native.Mathlib.Omega.{arith}

@@ -5,9 +5,9 @@ use lib.ListN.{get_or}
 use native.Mathlib.Omega.{arith}
 use borrow.Author.Rules.{rules}
 use Rattle.rows.specs.Keys.{keys, first_word}
-use Rattle.rows.specs.KeyLaws.{place-le, length-keys}
-use Rattle.rows.specs.SearchLaws.{below-place, place-reached, place-past}
-use Rattle.counters.specs.RowLaws.{in-order-sorted, found-row, no_row, past-rows}
+use Rattle.rows.proofs.KeyLaws.{place-le, length-keys}
+use Rattle.rows.proofs.SearchLaws.{below-place, place-reached, place-past}
+use Rattle.counters.proofs.RowLaws.{in-order-sorted, found-row, no_row, past-rows}
 use Rattle.counter_rows.proofs.stored_at.Statement.{statement}
 use Rattle.counter_rows.proofs.stored_at.Tie as tie
 

@@ -1,4 +1,4 @@
-use Rattle.counters.specs.MaintenanceLaws.{low_count, large-count, no-set, bit-set}
+use Rattle.counters.proofs.MaintenanceLaws.{low_count, large-count, no-set, bit-set}
 use borrow.Author.Rules.{rules}
 use Rattle.counter_sets.proofs.in_set.Statement.{statement}
 use Rattle.counter_sets.proofs.in_set.Tie as tie

@@ -1,5 +1,5 @@
 use mathlib.Core.Logic.{⊎_elim}
-use Rattle.counters.specs.MaintenanceLaws.{members_from, member-next, other-next, members-end}
+use Rattle.counters.proofs.MaintenanceLaws.{members_from, member-next, other-next, members-end}
 use mathlib.Core.Path.{◌≡◌, sym, ◌∙◌}
 use Prim.Native.Nat.{◌+◌, ◌-◌, ◌≤◌}
 use native.Mathlib.Omega.{arith}

@@ -1,4 +1,4 @@
-use Rattle.counters.specs.MaintenanceLaws.{after-yes, after-no}
+use Rattle.counters.proofs.MaintenanceLaws.{after-yes, after-no}
 use mathlib.Core.Path.{◌∙◌}
 use borrow.Author.Rules.{rules}
 use Rattle.counter_shrink.proofs.maintenance_after.Statement.{statement}

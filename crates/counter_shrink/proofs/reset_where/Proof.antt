@@ -1,5 +1,5 @@
 use Rattle.counters.specs.Maintenance.{reset_where}
-use Rattle.counters.specs.MaintenanceLaws.{filled_next, filled-end, length-reset, reset-at}
+use Rattle.counters.proofs.MaintenanceLaws.{filled_next, filled-end, length-reset, reset-at}
 use mathlib.Core.Path.{◌≡◌, refl, sym, ◌∙◌}
 use Prim.Native.Nat.{◌-◌, ◌≤◌}
 use native.Mathlib.Omega.{arith}

@@ -1,7 +1,7 @@
 use Rattle.rows.specs.Table.{rows_of}
 use Rattle.counters.specs.Layout.{count_row}
 use Rattle.counters.specs.Maintenance.{sets_shrink}
-use Rattle.counters.specs.MaintenanceLaws.{filled_next, filled-end, length-sets, set_at}
+use Rattle.counters.proofs.MaintenanceLaws.{filled_next, filled-end, length-sets, set_at}
 use mathlib.Core.Path.{◌≡◌, refl, sym, ◌∙◌}
 use mathlib.Core.Bool.{false}
 use Prim.Native.Nat.{◌-◌, ◌≤◌}

@@ -2,7 +2,7 @@ use Rattle.rows.specs.Table.{rows_of}
 use Rattle.counters.specs.Counts.{members}
 use Rattle.counters.specs.Layout.{count_row}
 use Rattle.counters.specs.Maintenance.{set_minimum}
-use Rattle.counters.specs.MaintenanceLaws.{none-removed}
+use Rattle.counters.proofs.MaintenanceLaws.{none-removed}
 use mathlib.Core.Path.{◌∙◌}
 use borrow.Author.Rules.{rules}
 use lib.ListN.{length}

@@ -1,6 +1,6 @@
 use Rattle.counters.specs.Layout.{with_maintenance}
-use Rattle.counters.specs.LayoutLaws.{held}
-use Rattle.counters.specs.MaintenanceLaws.{shrink-held}
+use Rattle.counters.proofs.LayoutLaws.{held}
+use Rattle.counters.proofs.MaintenanceLaws.{shrink-held}
 use borrow.Author.Rules.{rules}
 use Rattle.counter_shrink.proofs.shrink_held.Statement.{statement}
 use Rattle.counter_shrink.proofs.shrink_held.Tie as tie

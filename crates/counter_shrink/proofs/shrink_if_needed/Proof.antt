@@ -1,5 +1,5 @@
 use borrow.Author.Tests.{not-true, not-false}
-use Rattle.counters.specs.MaintenanceLaws.{shrink-broken}
+use Rattle.counters.proofs.MaintenanceLaws.{shrink-broken}
 use mathlib.Core.Path.{sym, ◌∙◌}
 use borrow.Author.Rules.{rules}
 use Rattle.counter_shrink.proofs.shrink_if_needed.Statement.{statement}

@@ -2,9 +2,9 @@ use mathlib.Core.Path.{sym, ◌∙◌}
 use borrow.Author.Rules.{rules}
 use Rattle.rows.specs.Table.{rows_of}
 use Rattle.counters.specs.Layout.{count_row}
-use Rattle.counters.specs.CodingLaws.{count-lawful}
+use Rattle.counters.proofs.CodingLaws.{count-lawful}
 use Rattle.counters.specs.Steps.{transition}
-use Rattle.rows.specs.TableLaws.{table-rows_of, length-rows_of}
+use Rattle.rows.proofs.TableLaws.{table-rows_of, length-rows_of}
 use Rattle.counter_steps.specs.PassLaws.{one-due, one-other}
 use Rattle.counter_steps.proofs.apply_one.Statement.{statement}
 use Rattle.counter_steps.proofs.apply_one.Tie as tie

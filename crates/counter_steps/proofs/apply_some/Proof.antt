@@ -6,16 +6,16 @@ use borrow.Author.Rules.{rules}
 use lib.ListN.{length, drop}
 use Rattle.rows.specs.Table.{rows_of}
 use Rattle.counters.specs.Layout.{count_row}
-use Rattle.counters.specs.CodingLaws.{count-lawful}
+use Rattle.counters.proofs.CodingLaws.{count-lawful}
 use Rattle.counters.specs.Steps.{transition_at, transitions}
-use Rattle.counters.specs.StepLaws.{in-batch, from-transition, no-transition}
-use Rattle.rows.specs.TableLaws.{rows_of-table, length-table, table-rows_of, length-rows_of}
+use Rattle.counters.proofs.StepLaws.{in-batch, from-transition, no-transition}
+use Rattle.rows.proofs.TableLaws.{rows_of-table, length-table, table-rows_of, length-rows_of}
 use Rattle.counters.specs.Batch.{counts_after}
 use mathlib.Core.List.{◌∷◌}
 use mathlib.Core.Path.{refl}
 use Rattle.counter_steps.specs.Steps.{pass_of, apply_one}
 use Rattle.counters.specs.Held.{InOrder}
-use Rattle.counters.specs.ApplyLaws.{in-order-table, in-order-ascends}
+use Rattle.counters.proofs.ApplyLaws.{in-order-table, in-order-ascends}
 use Rattle.counter_steps.specs.PassLaws.{one-ascends, one-fits, turn, pass-none}
 use Rattle.counter_steps.proofs.apply_some.Statement.{statement}
 use Rattle.counter_steps.proofs.apply_some.Tie as tie

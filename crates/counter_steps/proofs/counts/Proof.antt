@@ -5,7 +5,7 @@ use borrow.Author.Rules.{rules}
 use Rattle.base.specs.Logic.{pick}
 use Rattle.counters.specs.Steps.{transition}
 use Rattle.counter_steps.specs.Steps.{of_kind}
-use Rattle.counters.specs.StepLaws.{unchanged, changed}
+use Rattle.counters.proofs.StepLaws.{unchanged, changed}
 use Rattle.counter_steps.proofs.counts.Statement.{statement}
 use Rattle.counter_steps.proofs.counts.Tie as tie
 

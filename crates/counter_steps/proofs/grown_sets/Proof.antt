@@ -6,7 +6,7 @@ use native.Mathlib.Omega.{arith}
 use borrow.Author.Rules.{rules}
 use lib.ListN.{length, take, length-set}
 use Rattle.counters.specs.Maintenance.{grown, grown_sets}
-use Rattle.counters.specs.MaintenanceLaws.{filled_next, filled-end, length-grown, grown-at}
+use Rattle.counters.proofs.MaintenanceLaws.{filled_next, filled-end, length-grown, grown-at}
 use Rattle.counters.specs.Batch.{kept}
 use Rattle.counters.specs.Steps.{transitions}
 use Rattle.counter_steps.proofs.grown_sets.Statement.{statement}

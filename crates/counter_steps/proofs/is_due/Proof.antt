@@ -1,6 +1,6 @@
 use mathlib.Core.Path.{◌∙◌}
 use Rattle.counters.specs.Steps.{transition}
-use Rattle.counters.specs.StepLaws.{unchanged, changed}
+use Rattle.counters.proofs.StepLaws.{unchanged, changed}
 use Rattle.counter_steps.specs.Steps.{leaves_row}
 use Rattle.counter_steps.specs.PassLaws.{leaves-many, leaves-few}
 use Rattle.counter_steps.proofs.is_due.Statement.{statement}

@@ -9,8 +9,8 @@ use Rattle.base.specs.Logic.{keep}
 use Rattle.counters.specs.Batch.{changes, kept}
 use Rattle.counters.specs.Steps.{transition_at, transitions}
 use Rattle.counter_steps.specs.Steps.{of_kind}
-use Rattle.counters.specs.StepLaws.{in-batch, from-transition, no-transition, counted, count_none}
-use Rattle.counters.specs.StepLaws.{count-one}
+use Rattle.counters.proofs.StepLaws.{in-batch, from-transition, no-transition, counted, count_none}
+use Rattle.counters.proofs.StepLaws.{count-one}
 use Rattle.counter_steps.proofs.tally.Statement.{statement}
 use Rattle.counter_steps.proofs.tally.Tie as tie
 

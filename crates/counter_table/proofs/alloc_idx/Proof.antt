@@ -1,6 +1,6 @@
 use borrow.Author.Rules.{rules}
 use Rattle.counters.specs.Layout.{with_next}
-use Rattle.counters.specs.ReadLaws.{alloc-spent, alloc-next}
+use Rattle.counters.proofs.ReadLaws.{alloc-spent, alloc-next}
 use Rattle.counter_table.proofs.alloc_idx.Statement.{statement}
 use Rattle.counter_table.proofs.alloc_idx.Tie as tie
 

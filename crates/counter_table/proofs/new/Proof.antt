@@ -2,8 +2,8 @@ use mathlib.Core.Path.{sym, ◌∙◌}
 use borrow.Author.Rules.{rules}
 use borrow.Author.Tests.{not-true, not-false}
 use Rattle.counters.specs.Calls.{laid, no_counters}
-use Rattle.counters.specs.CallLaws.{new-bad, new-taken}
-use Rattle.counters.specs.ReadLaws.{fresh-table}
+use Rattle.counters.proofs.CallLaws.{new-bad, new-taken}
+use Rattle.counters.proofs.ReadLaws.{fresh-table}
 use Rattle.counter_table.proofs.new.Statement.{statement}
 use Rattle.counter_table.proofs.new.Tie as tie
 

@@ -5,7 +5,7 @@ use Prim.Native.Nat.{◌/◌}
 use native.Mathlib.Omega.{arith}
 use lib.ListN.{length}
 use borrow.Author.Rules.{rules}
-use Rattle.counters.specs.StepLaws.{total_left}
+use Rattle.counters.proofs.StepLaws.{total_left}
 use Rattle.counter_walk.specs.TurnLaws.{unallocated-ends, repeated-ends, false-old-ends, off-total-ends, full-ends, few-ends, passes}
 use Rattle.counter_walk.proofs.judged.Statement.{statement}
 use Rattle.counter_walk.proofs.judged.Tie as tie

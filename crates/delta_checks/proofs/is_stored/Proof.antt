@@ -1,5 +1,5 @@
 use Rattle.rows.specs.Keys.{keys, first_four}
-use Rattle.rows.specs.KeyLaws.{length-keys}
+use Rattle.rows.proofs.KeyLaws.{length-keys}
 use Rattle.rows.specs.Wide.{key_of}
 use Rattle.delta_checks.specs.ChecksLaws.{found-elem}
 use Prim.Native.Nat.{◌-◌}

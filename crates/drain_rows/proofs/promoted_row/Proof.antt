@@ -4,7 +4,7 @@ use Rattle.cell_nursery.specs.PrefixLaws.{waiter-key, index-within, row-same-rou
 use Rattle.cell_nursery.specs.CheckLaws.{waiter_at_row}
 use Rattle.cell_nursery.specs.SearchLaws.{index_of}
 use Rattle.cell_nursery.specs.Layout.{hash_of, hash_at}
-use Rattle.rows.specs.KeyLaws.{length-keys}
+use Rattle.rows.proofs.KeyLaws.{length-keys}
 use Rattle.rows.specs.Keys.{first_four, keys}
 use mathlib.Core.Path.{◌≡◌, ap, ◌∙◌}
 use Prim.Native.Nat.{ℕ, ◌+◌, ◌*◌}

@@ -2,7 +2,7 @@
 -- Assumes nothing.
 use mathlib.Core.Path.{◌∙◌}
 use native.Mathlib.Omega.{arith}
-use Rattle.rows.specs.WideLaws.{Words}
+use Rattle.rows.proofs.WideLaws.{Words}
 use Rattle.hash_words.specs.WideLaws.{key-written}
 use borrow.Author.Rules.{rules}
 use Rattle.hash_words.proofs.write_wide.Statement.{statement}

@@ -2,7 +2,7 @@
 -- Assumes nothing.
 use borrow.Author.Tests.{not-true, not-false}
 use Rattle.cell_nursery.specs.CheckLaws.{entries-bad-delay, entries-not-laid, entries-not-ascending, entries-by-fields}
-use Rattle.rows.specs.TableLaws.{holds-laid}
+use Rattle.rows.proofs.TableLaws.{holds-laid}
 use Rattle.rows.specs.Table.{holds_rows}
 use mathlib.Core.Bool.{true}
 use mathlib.Core.Path.{◌≡◌, sym, ◌∙◌}

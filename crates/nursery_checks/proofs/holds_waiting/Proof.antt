@@ -2,7 +2,7 @@
 -- Assumes nothing.
 use borrow.Author.Tests.{not-true, not-false}
 use Rattle.cell_nursery.specs.CheckLaws.{waiting-not-laid, waiting-by-rounds}
-use Rattle.rows.specs.TableLaws.{holds-laid}
+use Rattle.rows.proofs.TableLaws.{holds-laid}
 use mathlib.Core.Path.{sym, ◌∙◌}
 use borrow.Author.Rules.{rules}
 use Rattle.nursery_checks.proofs.holds_waiting.Statement.{statement}

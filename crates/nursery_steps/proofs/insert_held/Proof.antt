@@ -2,7 +2,7 @@ use Rattle.base.specs.Laws.{ascending-sorted}
 use Rattle.slices.specs.Laws.{length_part}
 use Rattle.rows.specs.Keys.{keys, first_four}
 use Rattle.rows.specs.Wide.{key_of}
-use Rattle.rows.specs.WideLaws.{Words}
+use Rattle.rows.proofs.WideLaws.{Words}
 use Rattle.cell_nursery.specs.HashLaws.{U64}
 use Rattle.cell_nursery.specs.LayoutLaws.{Held}
 use Rattle.nursery_steps.specs.Steps.{new_entry}

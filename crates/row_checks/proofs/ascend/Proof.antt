@@ -1,7 +1,7 @@
 use native.Mathlib.Nat.{mul-le-mul_right, mul-lt-mul_of_pos_right, le-mul_of_pos_right}
 use Rattle.base.specs.Logic.{ascending_from}
 use Rattle.rows.specs.Keys.{keys, first_word}
-use Rattle.rows.specs.KeyLaws.{length-keys, word_at, ascend-start, ascend-next, ascend-not, ascend-end}
+use Rattle.rows.proofs.KeyLaws.{length-keys, word_at, ascend-start, ascend-next, ascend-not, ascend-end}
 use mathlib.Core.Path.{◌≡◌, sym, ◌∙◌}
 use Prim.Native.Nat.{suc, ◌+◌, ◌-◌, ◌*◌, ◌≤◌, ◌<◌}
 use native.Mathlib.Omega.{arith}

@@ -3,8 +3,8 @@ use borrow.Author.Tests.{ltb-true, ltb-false, not-true, not-false}
 use Rattle.base.specs.Logic.{ascending_from}
 use Rattle.rows.specs.Keys.{keys, first_four}
 use Rattle.rows.specs.Wide.{key_of}
-use Rattle.rows.specs.TableLaws.{row_fits}
-use Rattle.rows.specs.KeyLaws.{length-keys, key-at, ascend-start, ascend-next, ascend-not, ascend-end}
+use Rattle.rows.proofs.TableLaws.{row_fits}
+use Rattle.rows.proofs.KeyLaws.{length-keys, key-at, ascend-start, ascend-next, ascend-not, ascend-end}
 use mathlib.Core.Path.{◌≡◌, sym, ◌∙◌}
 use Prim.Native.Nat.{ℕ, suc, ◌+◌, ◌-◌, ◌*◌, ◌≤◌}
 use native.Mathlib.Omega.{arith}

@@ -1,4 +1,4 @@
-use Rattle.rows.specs.TableLaws.{rows-over, rows_fit, rows-test}
+use Rattle.rows.proofs.TableLaws.{rows-over, rows_fit, rows-test}
 use mathlib.Core.Path.{sym, ◌∙◌}
 use Prim.Native.Nat.{◌*◌, ◌≤◌}
 use native.Mathlib.Omega.{arith}

@@ -1,4 +1,4 @@
-use Rattle.rows.specs.MoveLaws as moves
+use Rattle.rows.proofs.MoveLaws as moves
 use borrow.Author.Rules.{rules}
 use Rattle.row_moves.proofs.insert_row.Statement.{statement}
 use Rattle.row_moves.proofs.insert_row.Tie as tie

@@ -1,7 +1,7 @@
 -- `row_search::below` meets its contract: the highest words that differ decide.
 -- Assumes nothing.
 use native.Mathlib.Omega.{arith}
-use Rattle.rows.specs.WideLaws.{Words, by_first, by-second, by-third, by-fourth}
+use Rattle.rows.proofs.WideLaws.{Words, by_first, by-second, by-third, by-fourth}
 use Rattle.row_search.proofs.below.Statement.{statement}
 use Rattle.row_search.proofs.below.Tie as tie
 

@@ -3,7 +3,7 @@ use native.Mathlib.Omega.{arith}
 use borrow.Author.Rules.{rules}
 use native.Mathlib.Nat.{mul-lt-mul_of_pos_right}
 use Rattle.rows.specs.Keys.{keys, first_word, place}
-use Rattle.rows.specs.KeyLaws.{place-le, place_up, place_down, length-keys, word_at}
+use Rattle.rows.proofs.KeyLaws.{place-le, place_up, place_down, length-keys, word_at}
 use Rattle.row_search.proofs.find.Statement.{statement}
 use Rattle.row_search.proofs.find.Tie as tie
 

@@ -1,8 +1,8 @@
 use borrow.Author.Tests.{ltb-true, ltb-false}
 use Rattle.rows.specs.Keys.{keys, first_four, place}
 use Rattle.rows.specs.Wide.{key_of}
-use Rattle.rows.specs.TableLaws.{row_fits}
-use Rattle.rows.specs.KeyLaws.{place-le, place_up, place_down, length-keys, key-at}
+use Rattle.rows.proofs.TableLaws.{row_fits}
+use Rattle.rows.proofs.KeyLaws.{place-le, place_up, place_down, length-keys, key-at}
 use mathlib.Core.Path.{sym, ◌∙◌}
 use Prim.Native.Nat.{◌+◌, ◌-◌, ◌*◌, ◌/◌, ◌≤◌}
 use native.Mathlib.Omega.{arith}

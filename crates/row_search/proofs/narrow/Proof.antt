@@ -3,8 +3,8 @@ use native.Mathlib.Omega.{arith}
 use borrow.Author.Rules.{rules}
 use native.Mathlib.Nat.{mul-lt-mul_of_pos_right}
 use Rattle.rows.specs.Keys.{keys, first_word, place}
-use Rattle.rows.specs.KeyLaws.{place-le, length-keys}
-use Rattle.rows.specs.SearchLaws.{row_below, row_from}
+use Rattle.rows.proofs.KeyLaws.{place-le, length-keys}
+use Rattle.rows.proofs.SearchLaws.{row_below, row_from}
 use Rattle.row_search.proofs.narrow.Statement.{statement}
 use Rattle.row_search.proofs.narrow.Tie as tie
 

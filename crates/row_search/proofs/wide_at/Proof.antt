@@ -1,4 +1,4 @@
-use Rattle.rows.specs.WideLaws.{four-at}
+use Rattle.rows.proofs.WideLaws.{four-at}
 use borrow.Author.Rules.{rules}
 use Rattle.row_search.proofs.wide_at.Statement.{statement}
 use Rattle.row_search.proofs.wide_at.Tie as tie

@@ -1,4 +1,4 @@
-use Rattle.counters.specs.MaintenanceLaws.{no-base, base-in}
+use Rattle.counters.proofs.MaintenanceLaws.{no-base, base-in}
 use Rattle.shrink_rules.proofs.in_range.Statement.{statement}
 use Rattle.shrink_rules.proofs.in_range.Tie as tie
 

@@ -1,4 +1,4 @@
-use Rattle.counters.specs.MaintenanceLaws.{none-removed, none-alive, few-removed, third-removed}
+use Rattle.counters.proofs.MaintenanceLaws.{none-removed, none-alive, few-removed, third-removed}
 use borrow.Author.Rules.{rules}
 use Rattle.shrink_rules.proofs.should_shrink.Statement.{statement}
 use Rattle.shrink_rules.proofs.should_shrink.Tie as tie

@@ -1,4 +1,4 @@
-use Rattle.counters.specs.MaintenanceLaws.{good-save, far-threshold, doubled}
+use Rattle.counters.proofs.MaintenanceLaws.{good-save, far-threshold, doubled}
 use borrow.Author.Rules.{rules}
 use Rattle.shrink_rules.proofs.threshold_after.Statement.{statement}
 use Rattle.shrink_rules.proofs.threshold_after.Tie as tie

@@ -7,7 +7,7 @@ use Rattle.counters.specs.Layout.{state_of}
 use Rattle.snapshot.specs.Write.{snapshot_bytes}
 use Rattle.snapshot_parts.specs.PartLaws.{length-snapshot}
 use Rattle.snapshot_parts.specs.BoundLaws.{snapshot-fits}
-use Rattle.counters.specs.RowLaws.{in_order}
+use Rattle.counters.proofs.RowLaws.{in_order}
 use Rattle.snapshot_write.proofs.serialized_len_held.Statement.{statement}
 use Rattle.snapshot_write.proofs.serialized_len_held.Tie as tie
 

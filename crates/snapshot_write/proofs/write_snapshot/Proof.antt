@@ -3,7 +3,7 @@
 use native.Mathlib.Omega.{arith}
 use lib.ListN.{length-set}
 use Rattle.snapshot_parts.specs.PartLaws.{length-snapshot, whole-put}
-use Rattle.counters.specs.RowLaws.{in_order}
+use Rattle.counters.proofs.RowLaws.{in_order}
 use Rattle.snapshot_write.proofs.write_snapshot.Statement.{statement}
 use Rattle.snapshot_write.proofs.write_snapshot.Tie as tie
 

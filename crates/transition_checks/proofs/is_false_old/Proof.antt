@@ -3,8 +3,8 @@ use Rattle.rows.specs.Table.{rows_of}
 use Rattle.counters.specs.Layout.{count_row}
 use Rattle.counters.specs.Batch.{false_old}
 use Rattle.counters.specs.Steps.{transition}
-use Rattle.counters.specs.StepLaws.{unchanged, changed}
-use Rattle.counters.specs.StepLaws.{false-old-none, false-old-stored}
+use Rattle.counters.proofs.StepLaws.{unchanged, changed}
+use Rattle.counters.proofs.StepLaws.{false-old-none, false-old-stored}
 use Rattle.transition_checks.proofs.is_false_old.Statement.{statement}
 use Rattle.transition_checks.proofs.is_false_old.Tie as tie
 

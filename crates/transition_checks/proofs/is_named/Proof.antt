@@ -1,5 +1,5 @@
 use lib.Dec.{eqb}
-use Rattle.counters.specs.StepLaws.{unchanged, changed}
+use Rattle.counters.proofs.StepLaws.{unchanged, changed}
 use Rattle.transition_checks.proofs.is_named.Statement.{statement}
 use Rattle.transition_checks.proofs.is_named.Tie as tie
 

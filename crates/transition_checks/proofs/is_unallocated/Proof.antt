@@ -1,6 +1,6 @@
 use Rattle.counters.specs.Batch.{unallocated}
 use Rattle.counters.specs.Steps.{transition}
-use Rattle.counters.specs.StepLaws.{unchanged, changed}
+use Rattle.counters.proofs.StepLaws.{unchanged, changed}
 use Rattle.transition_checks.proofs.is_unallocated.Statement.{statement}
 use Rattle.transition_checks.proofs.is_unallocated.Tie as tie
 

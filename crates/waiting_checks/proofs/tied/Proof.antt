@@ -9,7 +9,7 @@ use borrow.Author.Rules.{rules}
 use borrow.Author.Tests.{not-true, not-false}
 use Rattle.rows.specs.Table.{rows_of}
 use Rattle.rows.specs.Keys.{first_four, keys}
-use Rattle.rows.specs.KeyLaws.{place-le, length-keys}
+use Rattle.rows.proofs.KeyLaws.{place-le, length-keys}
 use Rattle.cell_nursery.specs.Layout.{hash_of, WaitingRow, waiting_row}
 use Rattle.waiting_checks.specs.Marks.{clean, place_of, names_at}
 use Rattle.waiting_checks.specs.WindowLaws.{rows_from, first-window, next-window, last-window}

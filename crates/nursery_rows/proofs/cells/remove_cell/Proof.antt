@@ -1,4 +1,4 @@
-use Rattle.rows.specs.MoveLaws as moves
+use Rattle.rows.proofs.MoveLaws as moves
 use Prim.Native.Nat.{◌-◌}
 use borrow.Author.Rules.{rules}
 use Rattle.nursery_rows.proofs.cells.remove_cell.Statement.{statement}

@@ -1,5 +1,5 @@
 use Rattle.rows.specs.Keys.{keys, first_word, place}
-use Rattle.rows.specs.KeyLaws.{place-le, length-keys}
+use Rattle.rows.proofs.KeyLaws.{place-le, length-keys}
 use Rattle.nursery_rows.specs.Rows.{waiter_for, inserted_at}
 use mathlib.Core.Path.{◌≡◌, ap, ◌∙◌}
 use Prim.Native.Nat.{ℕ, suc, ◌+◌, ◌-◌}

@@ -2,7 +2,7 @@
 -- Assumes nothing.
 use mathlib.Core.Path.{sym}
 use native.Mathlib.Omega.{arith}
-use Rattle.rows.specs.WideLaws.{Words}
+use Rattle.rows.proofs.WideLaws.{Words}
 use Rattle.cell_nursery.specs.KeepLaws.{differ-first, differ-second, differ-third, by_last}
 use Rattle.nursery_rows.proofs.waiting.same.Statement.{statement}
 use Rattle.nursery_rows.proofs.waiting.same.Tie as tie

@@ -1,7 +1,7 @@
 use Prim.Native.Nat.{◌/◌}
 use Rattle.base.specs.Laws.{ascending-sorted}
 use Rattle.rows.specs.Keys.{place}
-use Rattle.rows.specs.KeyLaws.{place-le, place_up, place_down}
+use Rattle.rows.proofs.KeyLaws.{place-le, place_up, place_down}
 use Rattle.snapshot_tiers.specs.SortedLaws.{length-idxs, idx-at}
 use Rattle.snapshot_tiers.specs.Heads.{idxs_of}
 use Prim.Native.Nat.{◌+◌, ◌-◌, ◌≤◌}

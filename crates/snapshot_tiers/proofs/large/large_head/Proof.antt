@@ -1,5 +1,5 @@
 use borrow.Author.Tests.{not-false}
-use Rattle.rows.specs.KeyLaws.{place-le}
+use Rattle.rows.proofs.KeyLaws.{place-le}
 use Rattle.snapshot_tiers.specs.SortedLaws.{length-idxs, sorted-some, sorted_none}
 use Rattle.snapshot_tiers.specs.Heads.{idxs_of}
 use mathlib.Core.Path.{sym, ◌∙◌}

@@ -1,5 +1,5 @@
 use Rattle.base.specs.Logic.{ascending_from}
-use Rattle.rows.specs.KeyLaws.{ascend-start, ascend-next, ascend-not, ascend-end}
+use Rattle.rows.proofs.KeyLaws.{ascend-start, ascend-next, ascend-not, ascend-end}
 use Rattle.snapshot_tiers.specs.SortedLaws.{length-idxs, idx-at}
 use Rattle.snapshot_tiers.specs.Heads.{idxs_of}
 use mathlib.Core.Path.{◌≡◌, sym, ◌∙◌}

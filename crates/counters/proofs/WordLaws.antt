@@ -9,14 +9,14 @@ use Rattle.std.proofs.Math.ListN.{length}
 use Rattle.std.proofs.Math.Seq.{take-length}
 use Rattle.base.specs.Logic.{flat}
 use Rattle.rows.specs.Table.{rows_of}
-use Rattle.rows.specs.TableLaws.{length-words, words-rows_of, rows_of-words}
+use Rattle.rows.proofs.TableLaws.{length-words, words-rows_of, rows_of-words}
 use Rattle.counters.specs.declared.Applied.{Applied}
 use Rattle.counters.specs.declared.Counters.{Counters}
 use Rattle.counters.specs.declared.CounterTransition.{CounterTransition}
 use Rattle.counters.specs.Batch.{apply_batch}
 use Rattle.counters.specs.Calls.{Changed, on_state, laid_out, effect, batch_call}
 use Rattle.counters.specs.Layout.{transition_row, room_of, words_of, batch_of}
-use Rattle.counters.specs.CodingLaws.{transition-lawful}
+use Rattle.counters.proofs.CodingLaws.{transition-lawful}
 use Rattle.counters.specs.Steps.{transitions}
 
 -- lent words that aren't ragged are spelled by their transitions: every batch of words is one of records

@@ -13,10 +13,10 @@ use borrow.Author.Tests.{lt-ltb, le-ltb, le-leb, lt-leb, eq-eqb, ne_eqb, eqb-fal
 use Rattle.base.specs.Logic.{all, any, elem, keep, sum_of, ascending_from, sorted_from}
 use Rattle.base.specs.Laws.{sorted_head, sorted_tail, ascending-sorted}
 use Rattle.rows.specs.Table.{Coding, rows_of, table_of, holds_rows}
-use Rattle.rows.specs.TableLaws.{Lawful, rows_of-table, laid_table, laid-holds, length-table}
+use Rattle.rows.proofs.TableLaws.{Lawful, rows_of-table, laid_table, laid-holds, length-table}
 use Rattle.rows.specs.Keys.{place}
-use Rattle.rows.specs.OrderLaws.{put_rows-ascending}
-use Rattle.rows.specs.KeyLaws.{put_rows, place-lt, place-ge, behind-hit, put_rows-places}
+use Rattle.rows.proofs.OrderLaws.{put_rows-ascending}
+use Rattle.rows.proofs.KeyLaws.{put_rows, place-lt, place-ge, behind-hit, put_rows-places}
 use Rattle.base.specs.ListLaws.{all_append, all_weaker, all_keep, all-kept}
 use Rattle.base.specs.SumLaws.{or_left, or_right, all_map, sum-append, length-sum, sorted-append, keep-map, keep-sorted}
 

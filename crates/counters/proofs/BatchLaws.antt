@@ -18,8 +18,8 @@ use Rattle.counters.specs.Counts.{Entry, State, stored_at, count_at, set_count}
 use Rattle.counters.specs.Maintenance.{falls, rises, clears, grown, grown_sets, maintained}
 use Rattle.counters.specs.Batch.{kept, named, unallocated, births, deaths, false_old, off_total, counts_after, state_after, apply_kept, bound, apply_batch}
 use Rattle.counters.specs.Layout.{ordered}
-use Rattle.counters.specs.CountLaws.{stored_of, stored-two, stored_other, stored_at-set_count, count_at-set_count, set_count-swap, ordered-set_count, length-row_of, length-set_count}
-use Rattle.counters.specs.EachLaws.{each_same}
+use Rattle.counters.proofs.CountLaws.{stored_of, stored-two, stored_other, stored_at-set_count, count_at-set_count, set_count-swap, ordered-set_count, length-row_of, length-set_count}
+use Rattle.counters.proofs.EachLaws.{each_same}
 
 -- ---- the count at each index
 module _ (i : ℕ) (ts : List CounterTransition) (es : List Entry) where

@@ -6,7 +6,7 @@ use Rattle.std.proofs.Common.{ap₂, ◌∙◌, zero-add, add-zero, suc-add, ari
 use Prim.Native.Nat.{ℕ, zero, suc, ◌+◌, ◌≤◌, ◌<◌}
 use Rattle.std.proofs.Math.Nat.{add-suc}
 use Rattle.base.specs.Logic.{from}
-use Rattle.rows.specs.TableLaws.{first-words}
+use Rattle.rows.proofs.TableLaws.{first-words}
 
 module _ {A : Type 0} (f : ℕ → A) where
   pub length-each : (k n : ℕ) → length (map f (from k n)) ≡ n

@@ -8,15 +8,15 @@ use Rattle.std.proofs.Math.Seq.{append_snoc}
 use Rattle.std.proofs.lemmas.Bool.{lt-leb, eqb-false}
 use Rattle.base.specs.Logic.{zeros}
 use Rattle.rows.specs.Table.{rows_of, table_of}
-use Rattle.rows.specs.TableLaws.{length-rows_of, table-rows_of}
+use Rattle.rows.proofs.TableLaws.{length-rows_of, table-rows_of}
 use Rattle.rows.specs.Keys.{keys, first_word, place}
-use Rattle.rows.specs.KeyLaws.{put_rows, place-le, length-keys, word_at, behind-hit, behind-end, behind-miss}
-use Rattle.rows.specs.PutLaws.{put-more, put-inserted, put-none, put_same, put-replaced, put-less, put-removed}
+use Rattle.rows.proofs.KeyLaws.{put_rows, place-le, length-keys, word_at, behind-hit, behind-end, behind-miss}
+use Rattle.rows.proofs.PutLaws.{put-more, put-inserted, put-none, put_same, put-replaced, put-less, put-removed}
 use Rattle.counters.specs.Counts.{Entry, row_of, set_count}
 use Rattle.counters.specs.Layout.{count_row}
-use Rattle.counters.specs.CodingLaws.{count-lawful}
+use Rattle.counters.proofs.CodingLaws.{count-lawful}
 use Rattle.counters.specs.Held.{InOrder}
-use Rattle.counters.specs.RowLaws.{in-order-sorted}
+use Rattle.counters.proofs.RowLaws.{in-order-sorted}
 
 one-row : (i m : ℕ) → 2 ≤ m → row_of i m ≡ record { idx = i; count = m } ∷ []
 unfolding row_of

@@ -17,7 +17,7 @@ use Rattle.base.specs.Logic.{all, any, elem, keep, ascending_from}
 use Rattle.base.specs.Laws.{and_left, and_right, and_both}
 use Rattle.base.specs.OrderLaws.{two-parts, every}
 use Rattle.base.specs.ListLaws.{or-false, eqb-sym, all_weaker, all-kept, keep_append, keep-whole, keep-empty, keep-swap, keep-narrow, ascending-append, ascending-keep, ascending-from}
-use Rattle.rows.specs.KeyLaws.{put_rows}
+use Rattle.rows.proofs.KeyLaws.{put_rows}
 
 -- ---- the tests of a key k against two bounds
 module _ (k i j : ℕ) (h : i ≤ j) where

@@ -2,7 +2,7 @@
 -- Assumes nothing.
 use Rattle.std.specs.Prelude.{refl}
 use Rattle.base.specs.Logic.{from}
-use Rattle.rows.specs.TableLaws.{Lawful, first-words}
+use Rattle.rows.proofs.TableLaws.{Lawful, first-words}
 use Rattle.counters.specs.Layout.{count_row, transition_row}
 
 pub count-lawful : Lawful count_row

@@ -4,9 +4,9 @@ use Rattle.std.specs.Prelude.{◌≡◌, true, List, [], ◌∷◌, ◌++◌, �
 use Rattle.std.proofs.Common.{ap, ◌∙◌, arith, length-append, length-drop, take-append-drop, length-take-le}
 use Rattle.base.specs.Logic.{zeros, sorted_from}
 use Rattle.rows.specs.Table.{Coding, rows_of, table_of, Laid}
-use Rattle.rows.specs.TableLaws.{Lawful, length-rows_of, inserted, removed, replaced}
+use Rattle.rows.proofs.TableLaws.{Lawful, length-rows_of, inserted, removed, replaced}
 use Rattle.rows.specs.Keys.{keys, place}
-use Rattle.rows.specs.KeyLaws.{put_rows, place-le, length-keys, keys-rows_of, put_rows-places}
+use Rattle.rows.proofs.KeyLaws.{put_rows, place-le, length-keys, keys-rows_of, put_rows-places}
 
 module _ {E : Type 0} {c : Coding E} (law : Lawful c) (key : E → ℕ) (word : List ℕ → ℕ) (same : (t : List ℕ) → key (c.dec t) ≡ word t)
     (n : ℕ) (t : List ℕ) (laid : Laid c.width n t) (sorted : sorted_from 0 (keys word c.width n t) ≡ true) (lo hi : ℕ) where

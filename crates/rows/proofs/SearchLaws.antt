@@ -5,7 +5,7 @@ use Rattle.std.proofs.Common.{zero-le, arith}
 use Rattle.std.proofs.Math.Decide.{dec_le}
 use Rattle.base.specs.Logic.{sorted_from}
 use Rattle.rows.specs.Keys.{keys, first_word, place}
-use Rattle.rows.specs.KeyLaws.{place-le, place_up, place_down, length-keys, word_at}
+use Rattle.rows.proofs.KeyLaws.{place-le, place_up, place_down, length-keys, word_at}
 
 module _ (w n : ℕ) (t : List ℕ) (i : ℕ) where
   -- a row that isn't below a key stands at its place or behind it

@@ -12,20 +12,20 @@ use Rattle.base.specs.declared.Refusal.{Refusal}
 use Rattle.base.specs.declared.Answer.TheVariants.{Taken, Refused}
 use Rattle.base.specs.declared.Refusal.TheVariants.{Unallocated, Repeated, OffTotal, FalseOld, TableFull, Broken, FewCells}
 use Rattle.rows.specs.Table.{rows_of}
-use Rattle.rows.specs.TableLaws.{length-rows_of}
+use Rattle.rows.proofs.TableLaws.{length-rows_of}
 use Rattle.counters.specs.declared.Counters.{Counters}
 use Rattle.counters.specs.declared.CounterTransition.{CounterTransition}
 use Rattle.counters.specs.Counts.{Entry}
 use Rattle.counters.specs.Maintenance.{rises, falls}
 use Rattle.counters.specs.Batch.{changes, birth, death, kept, named, unallocated, false_old, births, deaths, off_total, counts_after, state_after, apply_kept, bound, apply_batch}
 use Rattle.counters.specs.Layout.{count_row, transition_row, room_of, record_of, table_of, state_of, holds, batch_of}
-use Rattle.counters.specs.LayoutLaws.{held}
+use Rattle.counters.proofs.LayoutLaws.{held}
 use Rattle.counters.specs.Calls.{effect, on_state, laid_out, laid, batch_call}
 use Rattle.counters.specs.Held.{Judged}
 use Rattle.counters.specs.Steps.{transitions}
-use Rattle.counters.specs.StepLaws.{total_left}
-use Rattle.counters.specs.BatchLaws.{length-counts_after}
-use Rattle.counters.specs.CallLaws.{batch-held}
+use Rattle.counters.proofs.StepLaws.{total_left}
+use Rattle.counters.proofs.BatchLaws.{length-counts_after}
+use Rattle.counters.proofs.CallLaws.{batch-held}
 
 -- how many kept transitions pass a test: at most as many as there are
 pub few-kept : (p : CounterTransition → Bool) (ws : List ℕ) → length (keep p (kept (transitions ws))) ≤ length ws / 3

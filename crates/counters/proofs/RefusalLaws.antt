@@ -18,8 +18,8 @@ use Rattle.counters.specs.declared.CounterTransition.{CounterTransition}
 use Rattle.counters.specs.Counts.{Entry, State, stored_at, count_at, allocate, get}
 use Rattle.counters.specs.Batch.{named, unallocated, kept, births, deaths, false_old, off_total, counts_after, state_after, apply_kept, apply_batch}
 use Rattle.counters.specs.Layout.{ordered}
-use Rattle.counters.specs.BoundLaws.{bound-other, bound-few, bound-taken, bound-numbers}
-use Rattle.counters.specs.BatchLaws.{ordered-counts_after, count-named, count-unnamed}
+use Rattle.counters.proofs.BoundLaws.{bound-other, bound-few, bound-taken, bound-numbers}
+use Rattle.counters.proofs.BatchLaws.{ordered-counts_after, count-named, count-unnamed}
 use Rattle.base.specs.OutcomeLaws.{flat-three, flat-four, flat-five, flat-six, other-number, refused-taken, taken_refused, taken-same, ends-here, ends-later, never_ends, Refuses, refuses-none, refuses-step}
 
 -- ---- allocation

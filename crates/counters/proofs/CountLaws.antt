@@ -15,9 +15,9 @@ use Rattle.base.specs.Laws.{and_left, and_right, and_both, ascending-head, ascen
 use Rattle.base.specs.ListLaws.{all_weaker}
 use Rattle.counters.specs.Counts.{Entry, stored_at, count_at, row_of, set_count}
 use Rattle.counters.specs.Layout.{sound, ordered}
-use Rattle.rows.specs.OrderLaws.{within, put_rows-again, put_rows-ascending, put_rows-swap}
-use Rattle.rows.specs.RowLaws.{all-put}
-use Rattle.rows.specs.KeyLaws.{put_rows}
+use Rattle.rows.proofs.OrderLaws.{within, put_rows-again, put_rows-ascending, put_rows-swap}
+use Rattle.rows.proofs.RowLaws.{all-put}
+use Rattle.rows.proofs.KeyLaws.{put_rows}
 
 -- what a count stores: 0 and 1 store nothing
 abbrev pub stored_of : ℕ → ℕ

@@ -13,15 +13,15 @@ use Rattle.base.specs.Logic.{all, ascending_from, sorted_from}
 use Rattle.base.specs.Laws.{and_left, ascending-head, ascending-tail, ascending-sorted}
 use Rattle.slices.specs.Laws.{paste-right, paste-two}
 use Rattle.rows.specs.Table.{rows_of, table_of, holds_rows}
-use Rattle.rows.specs.TableLaws.{length-rows_of, drop-row, rows_of-table, length-table, laid_table, inserted}
+use Rattle.rows.proofs.TableLaws.{length-rows_of, drop-row, rows_of-table, length-table, laid_table, inserted}
 use Rattle.rows.specs.Keys.{keys, first_word, place}
-use Rattle.rows.specs.KeyLaws.{place-le, place_at, length-keys, word_at, keys-rows_of}
+use Rattle.rows.proofs.KeyLaws.{place-le, place_at, length-keys, word_at, keys-rows_of}
 use Rattle.counters.specs.Counts.{Entry, stored_at}
 use Rattle.counters.specs.declared.Counters.{Counters}
 use Rattle.counters.specs.Maintenance.{in_range}
 use Rattle.counters.specs.Layout.{count_row, sound, ordered, holds}
-use Rattle.counters.specs.CodingLaws.{count-lawful}
-use Rattle.counters.specs.LayoutLaws.{held}
+use Rattle.counters.proofs.CodingLaws.{count-lawful}
+use Rattle.counters.proofs.LayoutLaws.{held}
 use Rattle.counters.specs.Steps.{row_at}
 use Rattle.counters.specs.Held.{InOrder}
 

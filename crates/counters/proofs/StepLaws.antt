@@ -11,7 +11,7 @@ use Rattle.std.proofs.Math.ListN.{length}
 use Rattle.std.proofs.Math.Seq.{drop-length}
 use Rattle.base.specs.Logic.{pick, any, elem, keep, repeated, max64}
 use Rattle.base.specs.ListLaws.{length-keep, or-false}
-use Rattle.rows.specs.TableLaws.{length-rows_of, drop-row, rows_fit}
+use Rattle.rows.proofs.TableLaws.{length-rows_of, drop-row, rows_fit}
 use Rattle.counters.specs.declared.CounterTransition.{CounterTransition}
 use Rattle.counters.specs.Layout.{transition_row}
 use Rattle.counters.specs.Counts.{Entry, stored_at}

@@ -14,7 +14,7 @@ use Rattle.base.specs.ListLaws.{length-keep}
 use Rattle.base.specs.declared.Answer.TheVariants.{Taken, Refused}
 use Rattle.base.specs.declared.Refusal.TheVariants.{Broken}
 use Rattle.rows.specs.Table.{rows_of}
-use Rattle.rows.specs.TableLaws.{length-rows_of}
+use Rattle.rows.proofs.TableLaws.{length-rows_of}
 use Rattle.counters.specs.declared.ShrinkSettings.{ShrinkSettings}
 use Rattle.counters.specs.declared.Counters.{Counters}
 use Rattle.counters.specs.declared.CounterMaintenance.{CounterMaintenance}
@@ -23,9 +23,9 @@ use Rattle.counters.specs.declared.CounterTransition.{CounterTransition}
 use Rattle.counters.specs.Maintenance.{in_range, adjust_shrink_threshold, adjusted, set_minimum, should_shrink, sets_shrink, reset_where, decide, shrunk, grown, grown_sets, clears}
 use Rattle.counters.specs.Layout.{count_row, with_maintenance, state_of, holds}
 use Rattle.counters.specs.Calls.{on_state, decided, shrink_call}
-use Rattle.counters.specs.RowLaws.{from_row}
+use Rattle.counters.proofs.RowLaws.{from_row}
 use Rattle.counters.specs.Steps.{row_at}
-use Rattle.counters.specs.EachLaws.{length-each, each_at}
+use Rattle.counters.proofs.EachLaws.{length-each, each_at}
 
 -- ---- the sets that a count is in
 module _ (k n : ℕ) where

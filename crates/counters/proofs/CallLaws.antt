@@ -16,7 +16,7 @@ use Rattle.base.specs.declared.Refusal.{Refusal}
 use Rattle.base.specs.declared.Refusal.TheVariants.{Broken, BadSetting}
 use Rattle.base.specs.declared.Answer.TheVariants.{Taken, Refused}
 use Rattle.rows.specs.Table.{rows_of}
-use Rattle.rows.specs.TableLaws.{laid-holds}
+use Rattle.rows.proofs.TableLaws.{laid-holds}
 use Rattle.counters.specs.declared.ShrinkSettings.{ShrinkSettings}
 use Rattle.counters.specs.declared.Counters.{Counters}
 use Rattle.counters.specs.declared.CounterTransition.{CounterTransition}
@@ -27,11 +27,11 @@ use Rattle.counters.specs.Counts.{State, fresh, allocate, get}
 use Rattle.counters.specs.Batch.{apply_batch}
 use Rattle.counters.specs.Maintenance.{in_range, decide, shrunk}
 use Rattle.counters.specs.Layout.{count_row, transition_row, room_of, record_of, with_next, with_maintenance, state_of, ordered, holds, batch_of}
-use Rattle.counters.specs.LayoutLaws.{held, length-table_of, state_of-laid, holds-laid}
+use Rattle.counters.proofs.LayoutLaws.{held, length-table_of, state_of-laid, holds-laid}
 use Rattle.counters.specs.Calls.{on_state, effect, laid, laid_out, with_settings, no_counters, laid_in, new_call, allocated, alloc_call, get_call, batch_call, decided, shrink_call}
-use Rattle.counters.specs.CountLaws.{ordered-more}
+use Rattle.counters.proofs.CountLaws.{ordered-more}
 use Rattle.base.specs.OutcomeLaws.{refused-taken, taken_refused, answer-refused, Refuses, refuses-none, refuses-step}
-use Rattle.counters.specs.RefusalLaws.{allocate-taken, get-numbers, batch-numbers, taken-ordered, bounded-after, taken-fits}
+use Rattle.counters.proofs.RefusalLaws.{allocate-taken, get-numbers, batch-numbers, taken-ordered, bounded-after, taken-fits}
 
 -- ---- an operation on the state that a record and a table hold
 module _ {A : Type 0} (c : Counters) (t : List ℕ) (f : State → Outcome A) where

@@ -4,19 +4,19 @@ use Rattle.std.specs.Prelude.{◌≡◌, refl, true, List, [], ◌∷◌, map, �
 use Rattle.std.proofs.Common.{arith}
 use Rattle.base.specs.Logic.{fold, ascending_from}
 use Rattle.rows.specs.Table.{rows_of, table_of}
-use Rattle.rows.specs.TableLaws.{rows_of-table, laid_table}
+use Rattle.rows.proofs.TableLaws.{rows_of-table, laid_table}
 use Rattle.rows.specs.Keys.{keys, first_word, place}
-use Rattle.rows.specs.KeyLaws.{put_rows}
-use Rattle.rows.specs.OrderLaws.{put_rows-ascending}
+use Rattle.rows.proofs.KeyLaws.{put_rows}
+use Rattle.rows.proofs.OrderLaws.{put_rows-ascending}
 use Rattle.counters.specs.declared.CounterTransition.{CounterTransition}
 use Rattle.counters.specs.Counts.{Entry, row_of, set_count}
 use Rattle.counters.specs.Layout.{count_row}
-use Rattle.counters.specs.CodingLaws.{count-lawful}
+use Rattle.counters.proofs.CodingLaws.{count-lawful}
 use Rattle.counters.specs.Batch.{counts_after}
 use Rattle.counters.specs.Held.{InOrder}
-use Rattle.counters.specs.RowLaws.{indices}
-use Rattle.counters.specs.SetLaws.{set-grows, set-shrinks}
-use Rattle.counters.specs.CountLaws.{row_within, row-ascending}
+use Rattle.counters.proofs.RowLaws.{indices}
+use Rattle.counters.proofs.SetLaws.{set-grows, set-shrinks}
+use Rattle.counters.proofs.CountLaws.{row_within, row-ascending}
 
 -- counts by ascending index
 abbrev pub Ascends : List Entry → Type 0

@@ -1,0 +1,16 @@
+pub mod ApplyLaws
+pub mod BatchLaws
+pub mod BoundLaws
+pub mod CallLaws
+pub mod CodingLaws
+pub mod CountLaws
+pub mod EachLaws
+pub mod JudgeLaws
+pub mod LayoutLaws
+pub mod MaintenanceLaws
+pub mod ReadLaws
+pub mod RefusalLaws
+pub mod RowLaws
+pub mod SetLaws
+pub mod StepLaws
+pub mod WordLaws
