@@ -1,6 +1,2 @@
--- `Pairs`: what is claimed. `InverseLaws`: a batch taken back. `OrderLaws`: two batches in either order. `PairLaws`: both, on a box. `Worked`: evaluated lines.
+-- `Pairs`: what is claimed.
 pub mod Pairs
-pub mod InverseLaws
-pub mod OrderLaws
-pub mod PairLaws
-pub mod Worked

@@ -25,7 +25,7 @@ use Rattle.delta_items.specs.Walk.{inserts_len, items_fit, delta_in, removes_at}
 use Rattle.delta_items.specs.WalkLaws.{delta-whole, delta-none, length-inserts, length-hashes, inserts-cells, fit-inserts, fit-removes, removes-at, removes-past}
 use Rattle.delta_items.specs.declared.End.TheVariants.{At, Past}
 use Rattle.format.specs.Record.{stats_of, leftover}
-use Rattle.format.specs.RefusalLaws.{payload-short, payload-past, payload-items}
+use Rattle.format.proofs.RefusalLaws.{payload-short, payload-past, payload-items}
 use Rattle.node_box.specs.Box.{Call, delta, step, with_counters, with_nursery}
 use Rattle.box_items.specs.declared.Ran.{Ran}
 use Rattle.box_items.specs.Items.{allocate_item, words_in, batch_item, delta_item, drain_room, drain_item, call_of, box_of, effect, bad_item, ran}

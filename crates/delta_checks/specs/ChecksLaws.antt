@@ -6,7 +6,8 @@ use Rattle.std.proofs.Math.Decide.{dec_lt}
 use Rattle.base.specs.Logic.{any, elem, repeated}
 use Rattle.rows.proofs.RowLaws.{elem-hit}
 use Rattle.cell_nursery.specs.Entries.{Entry}
-use Rattle.cell_nursery.specs.SearchLaws.{index_of, index-found, index-none}
+use Rattle.cell_nursery.proofs.SearchLaws.{index-found, index-none}
+use Rattle.cell_nursery.specs.Rows.{index_of}
 use Rattle.delta_items.specs.Walk.{hash_in, insert_in, insert_len, inserts_from}
 use Rattle.delta_items.specs.WalkLaws.{inserts-turn, inserts-done}
 

@@ -6,7 +6,7 @@ ghost use Rattle.base.specs.Logic.{any, elem, repeated};
 ghost use Rattle.rows.specs.Keys.{keys, first_four};
 ghost use Rattle.rows.specs.Wide.{key_of};
 ghost use Rattle.cell_nursery.specs.Calls.{length_width};
-ghost use Rattle.cell_nursery.specs.LayoutLaws.{EntriesHeld};
+ghost use Rattle.cell_nursery.specs.Held.{EntriesHeld};
 ghost use Rattle.delta_items.specs.Walk.{inserts_in, inserts_len, inserts_fit, inserts_from};
 ghost use Rattle.delta_items.specs.WalkLaws.{Left};
 

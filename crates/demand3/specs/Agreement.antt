@@ -23,7 +23,7 @@ use Rattle.cell_nursery.specs.Items.{Delta, delta_of}
 use Rattle.cell_nursery.specs.Delta.{state_after}
 use Rattle.cell_nursery.specs.Drain.{drained}
 use Rattle.cell_nursery.specs.Calls.{length_width}
-use Rattle.cell_nursery.specs.EntryLaws.{entry_at, entry_at-put, entry_at-removed}
+use Rattle.cell_nursery.proofs.EntryLaws.{entry_at, entry_at-put, entry_at-removed}
 use Rattle.node_box.specs.Box.{Box, Call, allocate, batch, batch_records, delta, drain, get, shrink, adjust, measure, serialize, lookup, locate, listing, step, run, accepted, answers}
 use Rattle.node_box.specs.Plain.{Plain, Cell, fresh_plain, set_at, plain_batch, plain_delta, plain_taken, plain_step, run_plain}
 use Rattle.node_box.specs.Demand.{typed, History, Typed, end, plain}

@@ -28,7 +28,7 @@ use Rattle.cell_nursery.specs.Delta.{apply_delta}
 use Rattle.cell_nursery.specs.Items.{delta_of}
 use Rattle.cell_nursery.specs.Drain.{drain_bytes, listing_bytes}
 use Rattle.cell_nursery.specs.Calls as nursery-calls
-use Rattle.cell_nursery.specs.CallLaws as nursery
+use Rattle.cell_nursery.proofs.CallLaws as nursery
 use Rattle.cell_nursery.specs.Calls.{length_width, delta_call, drained_out, drain_call, found_of, lookup_call, data_of, data_call, listing_call}
 use Rattle.node_box.specs.Box.{Box, Call, allocate, batch, batch_records, delta, drain, get, shrink, adjust, measure, serialize, lookup, locate, listing, step}
 use Rattle.demand3.specs.CountersHeld.{counters-hold, counters-state, counters-length}

@@ -18,9 +18,9 @@ use Rattle.counters.specs.Counts as counts
 use Rattle.cell_nursery.specs.Entries as entries
 use Rattle.cell_nursery.specs.Entries.{Entry, Waiting, State, names, tied, cell_bytes}
 use Rattle.cell_nursery.specs.Drain.{due, named, promoted, promoted_bytes, drain_bytes}
-use Rattle.cell_nursery.specs.DrainLaws.{named-above}
-use Rattle.cell_nursery.specs.ItemLaws.{length-hash_bytes}
-use Rattle.cell_nursery.specs.WaitLaws.{waiter_for, gone_of, tied-waits}
+use Rattle.cell_nursery.proofs.DrainLaws.{named-above}
+use Rattle.cell_nursery.proofs.ItemLaws.{length-hash_bytes}
+use Rattle.cell_nursery.proofs.WaitLaws.{waiter_for, gone_of, tied-waits}
 use Rattle.node_box.specs.Box.{Box, drain, step}
 use Rattle.demand3.specs.Holding.{Fixed, Holds}
 use Rattle.demand3.specs.Answered.{answer_to, answer-is}

@@ -20,7 +20,7 @@ use Rattle.cell_nursery.specs.Entries as entries
 use Rattle.cell_nursery.specs.Entries.{empty}
 use Rattle.cell_nursery.specs.Layout as nursery
 use Rattle.cell_nursery.specs.Layout.{delay_in_range}
-use Rattle.cell_nursery.specs.SettingLaws.{delta-delay, drain-delay}
+use Rattle.cell_nursery.proofs.SettingLaws.{delta-delay, drain-delay}
 use Rattle.base.specs.SpellLaws.{Bytes}
 use Rattle.node_box.specs.Box.{Settings, settings_in_range, settings_of, Box, Call, allocate, batch, batch_records, delta, drain, get, shrink, adjust, measure, serialize, lookup, locate, listing, made, accepted, with_counters, with_nursery, step, run}
 use Rattle.node_box.specs.Demand.{typed, History, Typed, start, end}

@@ -11,9 +11,9 @@ use Rattle.base.specs.ListLaws.{all_weaker}
 use Rattle.base.specs.Maybe.{maybe}
 use Rattle.cell_nursery.specs.Entries.{Entry, insert_bytes}
 use Rattle.cell_nursery.specs.Drain.{listing_bytes}
-use Rattle.cell_nursery.specs.ItemLaws.{fits_item, item-fits, read_insert-append, length-insert}
+use Rattle.cell_nursery.proofs.ItemLaws.{fits_item, item-fits, read_insert-append, length-insert}
 use Rattle.cell_nursery.specs.Items.{read_insert}
-use Rattle.cell_nursery.specs.EntryLaws.{entry_at}
+use Rattle.cell_nursery.proofs.EntryLaws.{entry_at}
 use Rattle.node_box.specs.Box.{listing_of}
 use Rattle.node_box.specs.Plain.{Cell}
 use Rattle.node_box.specs.Demand.{History, Typed, end, plain, SameEntries}

@@ -17,14 +17,14 @@ use Rattle.cell_nursery.specs.Delta.{Room, state_after, apply_delta}
 use Rattle.cell_nursery.specs.Items.{Delta, delta_of}
 use Rattle.cell_nursery.specs.Drain.{drained, drain_bytes}
 use Rattle.cell_nursery.specs.Layout.{record_of, entries_table, waiting_table, cells_table, room_of, state_of, delay_in_range, holds, holds_entries, holds_cells}
-use Rattle.cell_nursery.specs.HashLaws.{U64}
-use Rattle.cell_nursery.specs.LayoutLaws.{WellFormed, held, number-entries, bytes_same, length-entries_table, length-waiting_table, length-cells_table, state_of-laid, holds-laid, entries-laid, cells-laid}
-use Rattle.cell_nursery.specs.EntryLaws.{well-empty, well-after, well-drained, InRoom, room-empty, room_after}
-use Rattle.cell_nursery.specs.SettingLaws.{new-taken}
+use Rattle.cell_nursery.proofs.HashLaws.{U64}
+use Rattle.cell_nursery.proofs.LayoutLaws.{WellFormed, held, number-entries, bytes_same, length-entries_table, length-waiting_table, length-cells_table, state_of-laid, holds-laid, entries-laid, cells-laid}
+use Rattle.cell_nursery.proofs.EntryLaws.{well-empty, well-after, well-drained, InRoom, room-empty, room_after}
+use Rattle.cell_nursery.proofs.SettingLaws.{new-taken}
 use Rattle.cell_nursery.specs.Calls.{Changed, DrainedOut, laid, laid_out, on_state, new_call, length_width, delta_call, drained_out, drain_call}
 use Rattle.base.specs.SpellLaws.{Bytes}
 use Rattle.journal_laws.specs.DeltaLaws.{Accepted, delta-read, delta-fits, taken-accepted}
-use Rattle.format.specs.RecordLaws.{Fits}
+use Rattle.format.proofs.RecordLaws.{Fits}
 use Rattle.node_box.specs.Box.{delta, drain}
 use Rattle.demand3.specs.States.{nursery_after}
 

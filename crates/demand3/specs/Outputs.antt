@@ -19,7 +19,7 @@ use Rattle.cell_nursery.specs.Layout as nursery
 use Rattle.cell_nursery.specs.Layout.{entries_of}
 use Rattle.cell_nursery.specs.Calls.{listing_call}
 use Rattle.node_box.specs.Box.{Box, given, snapshot_of, listing_of}
-use Rattle.node_box.specs.OutputLaws.{written-whole}
+use Rattle.node_box.proofs.OutputLaws.{written-whole}
 use Rattle.demand3.specs.CountersHeld.{CountersHeld, counters-hold, counters-state}
 use Rattle.demand3.specs.NurseryHeld.{NurseryHeld, nursery-state, entries-hold, cells-hold}
 

@@ -19,11 +19,11 @@ use Rattle.cell_nursery.specs.Delta.{Room}
 use Rattle.cell_nursery.specs.Drain.{listing_bytes}
 use Rattle.cell_nursery.specs.Layout.{record_of, room_of, delay_in_range}
 use Rattle.cell_nursery.specs.Calls.{laid}
-use Rattle.cell_nursery.specs.EntryLaws.{well-empty, room-empty}
+use Rattle.cell_nursery.proofs.EntryLaws.{well-empty, room-empty}
 use Rattle.journal.specs.Journal.{damaged, read_journal, ReadIn, read_out, read_under}
-use Rattle.journal.specs.ReadLaws.{read-undamaged}
-use Rattle.journal.specs.ModeLaws.{read-good}
-use Rattle.cell_nursery.specs.WaitLaws.{Waits, waits-empty}
+use Rattle.journal.proofs.ReadLaws.{read-undamaged}
+use Rattle.journal.proofs.ModeLaws.{read-good}
+use Rattle.cell_nursery.proofs.WaitLaws.{Waits, waits-empty}
 use Rattle.journal_laws.specs.ReadLaws.{end_of, Applies, applies-whole, applied-waits, applied-well, applied-fits, journal-cut, cut-undamaged}
 use Rattle.node_box.specs.Box.{Box, snapshot_of, listing_of}
 use Rattle.node_box.specs.Journal.{Logged, records, journal_of, whole, listing_after, rebuild, cut_end}

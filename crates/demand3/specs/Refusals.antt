@@ -27,7 +27,7 @@ use Rattle.cell_nursery.specs.Delta.{Room, apply_delta}
 use Rattle.cell_nursery.specs.Drain.{drain_bytes, listing_bytes}
 use Rattle.cell_nursery.specs.Calls.{length_width}
 use Rattle.base.specs.AnswerLaws.{not-refused, exactly, missing-here, missing-numbers, output-full, output-numbers, says, says-numbers}
-use Rattle.cell_nursery.specs.RefusalLaws.{IsLong, IsPresent, IsFull, delta-long, delta-present, delta-full, delta-numbers}
+use Rattle.cell_nursery.proofs.RefusalLaws.{IsLong, IsPresent, IsFull, delta-long, delta-present, delta-full, delta-numbers}
 use Rattle.node_box.specs.Box.{Box, Call, allocate, batch, batch_records, delta, drain, get, shrink, adjust, measure, serialize, lookup, locate, listing, step, counters_of, nursery_of}
 use Rattle.node_box.specs.Demand.{History, Typed, end}
 use Rattle.demand3.specs.CountersHeld.{counters-state}

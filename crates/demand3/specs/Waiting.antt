@@ -8,7 +8,7 @@ use Rattle.base.specs.Laws.{and_both}
 use Rattle.base.specs.ListLaws.{Among, any_some, some-weaker, any-map, any_order}
 use Rattle.base.specs.OrderLaws.{all-each}
 use Rattle.cell_nursery.specs.Entries.{Entry, State, names}
-use Rattle.cell_nursery.specs.WaitLaws.{waiter_for, Waits, waits-tied}
+use Rattle.cell_nursery.proofs.WaitLaws.{waiter_for, Waits, waits-tied}
 use Rattle.node_box.specs.Demand.{every_entry_waits}
 
 -- the row that is an entry's names it

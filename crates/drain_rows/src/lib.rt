@@ -6,9 +6,8 @@ ghost use Rattle.std.proofs.Math.Seq.{paste};
 ghost use Rattle.base.specs.Logic.{keep, flat, overlay};
 ghost use Rattle.cell_nursery.specs.Drain.{due};
 ghost use Rattle.cell_nursery.specs.Layout.{waiter_of, entries_of, waiting_of};
-ghost use Rattle.cell_nursery.specs.LayoutLaws.{EntriesHeld, WaitingHeld, CellsHeld};
-ghost use Rattle.cell_nursery.specs.CheckLaws.{waiter_at_row};
-ghost use Rattle.cell_nursery.specs.PrefixLaws.{promoted_row, handed_out};
+ghost use Rattle.cell_nursery.specs.Held.{CellsHeld, EntriesHeld, WaitingHeld};
+ghost use Rattle.cell_nursery.specs.Rows.{handed_out, promoted_row, waiter_at_row};
 
 use cell_nursery::Nursery;
 

@@ -17,7 +17,7 @@ use Rattle.blake3.specs.Mode.{Mode, mode_of}
 use Rattle.cell_nursery.specs.Entries.{Entry, hash_bytes}
 use Rattle.cell_nursery.specs.Items.{Delta, read_hash, read_insert, delta_of}
 use Rattle.cell_nursery.specs.Delta.{too_long}
-use Rattle.cell_nursery.specs.ItemLaws.{read_hash-append}
+use Rattle.cell_nursery.proofs.ItemLaws.{read_hash-append}
 use Rattle.format.specs.declared.RecordStats.{RecordStats}
 use Rattle.format.specs.Record.{record_bytes, encode}
 use Rattle.format.specs.Calls.{EncodedOut, encoded_out, encode_call, encode_under, decode_call, decode_under}

@@ -11,7 +11,7 @@ use Rattle.rows.specs.Wide.{key_of}
 use Rattle.rows.proofs.WideLaws.{Words}
 use Rattle.cell_nursery.specs.Entries.{hash_bytes}
 use Rattle.cell_nursery.specs.Layout.{HashWords, hash_of}
-use Rattle.cell_nursery.specs.HashLaws.{hash-read, hash-written, hash-small}
+use Rattle.cell_nursery.proofs.HashLaws.{hash-read, hash-written, hash-small}
 
 -- the words of a key as those of a hash
 abbrev pub words_of : Wide → HashWords

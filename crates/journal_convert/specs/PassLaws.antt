@@ -17,9 +17,9 @@ use Rattle.slices.specs.PlaceLaws.{put_at-none, Filling, filling-start, filling-
 use Rattle.format.specs.declared.Decoded.{Decoded}
 use Rattle.format.specs.Record.{Decoding, used_bytes, parse}
 use Rattle.format.specs.Calls.{decoded_of, parse_call}
-use Rattle.format.specs.RefusalLaws.{Whole, Matches, parse-taken}
+use Rattle.format.proofs.RefusalLaws.{Whole, Matches, parse-taken}
 use Rattle.journal.specs.Convert.{Conversion, convert}
-use Rattle.journal.specs.ConvertLaws.{convert-refused}
+use Rattle.journal.proofs.ConvertLaws.{convert-refused}
 use Rattle.journal_convert.specs.declared.Sizes.{Sizes}
 use Rattle.journal_convert.specs.Rewriting.{list_bytes, sizes_of, kept_of, listed}
 use Rattle.journal_convert.specs.StopLaws.{stop_in, stop-refused, stop-later, stop-here}

@@ -12,9 +12,9 @@ use Rattle.base.specs.Answers.{taken}
 use Rattle.slices.specs.Laws.{part-front}
 use Rattle.format.specs.Payload.{payload_bytes}
 use Rattle.format.specs.Record.{Decoding, record_bytes, used_bytes, leftover, parse}
-use Rattle.format.specs.ExactLaws.{Spelled, parsed, parse-exact}
+use Rattle.format.proofs.ExactLaws.{Spelled, parsed, parse-exact}
 use Rattle.journal.specs.Convert.{dropped_bytes, Conversion, dropped_at, anew}
-use Rattle.journal.specs.ConvertLaws.{convert_in, convert-taken}
+use Rattle.journal.proofs.ConvertLaws.{convert_in, convert-taken}
 use Rattle.journal_convert.specs.Rewriting.{list_bytes, Kept, kept_of, listed}
 use Rattle.journal_convert.specs.StopLaws.{stop_in, stop-taken}
 

@@ -10,7 +10,7 @@ use Rattle.base.specs.Answers.{Outcome, refused, taken, either}
 use Rattle.base.specs.OutcomeLaws.{refused-taken}
 use Rattle.base.specs.declared.Refusal.{Refusal}
 use Rattle.format.specs.Record.{Decoding, parse}
-use Rattle.journal.specs.ConvertLaws.{parse-none}
+use Rattle.journal.proofs.ConvertLaws.{parse-none}
 use Rattle.journal_convert.specs.Rewriting.{stop_from}
 
 module _ (hash : List ℕ → List ℕ) where

@@ -26,13 +26,13 @@ use Rattle.cell_nursery.specs.Delta.{Room, apply_delta}
 use Rattle.cell_nursery.specs.Layout.{room_of, delay_in_range}
 use Rattle.format.specs.Payload.{payload_bytes}
 use Rattle.format.specs.Record.{Decoding, stats_of, record_bytes, leftover, parse, decode}
-use Rattle.format.specs.RecordLaws.{length-record, Fits, decode-whole}
-use Rattle.format.specs.RefusalLaws.{parse-numbers, still-refused, still-taken, left_over, decode-taken}
-use Rattle.format.specs.ExactLaws.{Spelled, parsed, parse-exact}
+use Rattle.format.proofs.RecordLaws.{length-record, Fits, decode-whole}
+use Rattle.format.proofs.RefusalLaws.{parse-numbers, still-refused, still-taken, left_over, decode-taken}
+use Rattle.format.proofs.ExactLaws.{Spelled, parsed, parse-exact}
 use Rattle.journal.specs.Journal.{End, Step, pass_record, scan, damages, damaged, apply_record, read_journal, ReadIn, not_read, read_out, read_call}
 use Rattle.journal.specs.Convert.{dropped_bytes, Conversion, unchanged, dropped_at, anew, convert, converted_out, convert_call, parsed_step, read_before}
-use Rattle.journal.specs.ReadLaws.{passed-refused, passed-taken, records_in, records-end, records-taken, records-refused}
-use Rattle.journal.specs.ConvertLaws.{parse-none, convert_in, convert-refused, convert-taken, Walk, finished, halted, next, walked, length-dropped, convert-sizes}
+use Rattle.journal.proofs.ReadLaws.{passed-refused, passed-taken, records_in, records-end, records-taken, records-refused}
+use Rattle.journal.proofs.ConvertLaws.{parse-none, convert_in, convert-refused, convert-taken, Walk, finished, halted, next, walked, length-dropped, convert-sizes}
 
 -- ---- a journal without leftovers stays as it is
 module _ (hash : List ℕ → List ℕ) where

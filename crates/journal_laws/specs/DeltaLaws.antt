@@ -17,10 +17,10 @@ use Rattle.base.specs.ListLaws.{or-false, all_weaker}
 use Rattle.cell_nursery.specs.Entries.{Entry, State, insert_bytes}
 use Rattle.cell_nursery.specs.Items.{Delta, item_bytes, read_hash, read_insert, delta_of}
 use Rattle.cell_nursery.specs.Delta.{Room, too_long, present, full, state_after, apply_delta}
-use Rattle.cell_nursery.specs.ItemLaws.{fits_item, length-insert, length-hashes}
-use Rattle.cell_nursery.specs.SpellLaws.{read_hash-spells}
+use Rattle.cell_nursery.proofs.ItemLaws.{fits_item, length-insert, length-hashes}
+use Rattle.cell_nursery.proofs.SpellLaws.{read_hash-spells}
 use Rattle.format.specs.Payload.{payload_bytes}
-use Rattle.format.specs.RecordLaws.{Fits}
+use Rattle.format.proofs.RecordLaws.{Fits}
 
 -- ---- what is read of bytes
 pub cut-bytes : (n : ℕ) (bs : List ℕ) → Bytes bs → Gives (λ y. (length y.0 ≡ n) × Bytes y.0 × Bytes y.1) (cut n bs)

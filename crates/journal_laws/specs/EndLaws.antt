@@ -23,15 +23,15 @@ use Rattle.cell_nursery.specs.Entries.{State, empty}
 use Rattle.cell_nursery.specs.Items.{Delta}
 use Rattle.cell_nursery.specs.Delta.{Room, too_long, present, full, state_after, apply_delta}
 use Rattle.cell_nursery.specs.Layout.{room_of, delay_in_range}
-use Rattle.cell_nursery.specs.SpellLaws.{fits-short}
-use Rattle.cell_nursery.specs.RefusalLaws.{delta-numbers}
+use Rattle.cell_nursery.proofs.SpellLaws.{fits-short}
+use Rattle.cell_nursery.proofs.RefusalLaws.{delta-numbers}
 use Rattle.base.specs.AnswerLaws.{not-refused, exactly, Answers}
 use Rattle.format.specs.Record.{Decoding, decode}
-use Rattle.format.specs.RefusalLaws.{stated, Whole, Matches, decode-short, decode-mismatch, decode-taken, decode-numbers}
-use Rattle.format.specs.TakenLaws.{taken-lent}
-use Rattle.format.specs.ExactLaws.{parsed}
+use Rattle.format.proofs.RefusalLaws.{stated, Whole, Matches, decode-short, decode-mismatch, decode-taken, decode-numbers}
+use Rattle.format.proofs.TakenLaws.{taken-lent}
+use Rattle.format.proofs.ExactLaws.{parsed}
 use Rattle.journal.specs.Journal.{End, pass_record, scan, damages, damaged, apply_record, read_journal, ReadIn, read_out, read_call}
-use Rattle.journal.specs.ReadLaws.{RecordRefused, record-refused, record-taken, passed-refused, passed-taken, records_in, records-taken, records-refused, Stopped, at_end, at_record, records-ends, damages-other, read_taken, read-setting, read-damage, read-numbers}
+use Rattle.journal.proofs.ReadLaws.{RecordRefused, record-refused, record-taken, passed-refused, passed-taken, records_in, records-taken, records-refused, Stopped, at_end, at_record, records-ends, damages-other, read_taken, read-setting, read-damage, read-numbers}
 use Rattle.base.specs.SpellLaws.{Bytes}
 
 -- ---- a record's delta is never too long: a cell's length has two bytes, a list's four

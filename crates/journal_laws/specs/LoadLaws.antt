@@ -8,15 +8,15 @@ use Rattle.base.specs.declared.Answer.TheVariants.{Taken}
 use Rattle.base.specs.ListLaws.{all_take, all_drop}
 use Rattle.cell_nursery.specs.Entries.{State, empty}
 use Rattle.cell_nursery.specs.Delta.{Room}
-use Rattle.cell_nursery.specs.WaitLaws.{Waits, waits-empty, waits-after, none-gone}
+use Rattle.cell_nursery.proofs.WaitLaws.{Waits, waits-empty, waits-after, none-gone}
 use Rattle.cell_nursery.specs.Layout.{room_of, holds}
-use Rattle.cell_nursery.specs.LayoutLaws.{WellFormed, holds-laid}
-use Rattle.cell_nursery.specs.EntryLaws.{well-empty, well-after, InRoom, room-empty, room_after}
+use Rattle.cell_nursery.proofs.LayoutLaws.{WellFormed, holds-laid}
+use Rattle.cell_nursery.proofs.EntryLaws.{well-empty, well-after, InRoom, room-empty, room_after}
 use Rattle.cell_nursery.specs.Calls.{laid}
 use Rattle.format.specs.Record.{Decoding, decode}
-use Rattle.format.specs.TakenLaws.{taken-lent}
+use Rattle.format.proofs.TakenLaws.{taken-lent}
 use Rattle.journal.specs.Journal.{apply_record, read_journal, ReadIn, read_out, read_call}
-use Rattle.journal.specs.ReadLaws.{record-taken, records-ends, read_taken}
+use Rattle.journal.proofs.ReadLaws.{record-taken, records-ends, read_taken}
 use Rattle.base.specs.SpellLaws.{Bytes}
 use Rattle.journal_laws.specs.DeltaLaws.{Read, delta-read, delta-fits, taken-accepted}
 

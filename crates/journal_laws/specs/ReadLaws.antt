@@ -20,14 +20,14 @@ use Rattle.base.specs.declared.Answer.TheVariants.{Taken, Refused}
 use Rattle.cell_nursery.specs.Entries.{State, empty}
 use Rattle.cell_nursery.specs.Items.{Delta}
 use Rattle.cell_nursery.specs.Delta.{Room, present, full, state_after}
-use Rattle.cell_nursery.specs.WaitLaws.{Waits, none-gone, waits-after}
-use Rattle.cell_nursery.specs.LayoutLaws.{WellFormed}
-use Rattle.cell_nursery.specs.EntryLaws.{well-after, InRoom, room_after}
+use Rattle.cell_nursery.proofs.WaitLaws.{Waits, none-gone, waits-after}
+use Rattle.cell_nursery.proofs.LayoutLaws.{WellFormed}
+use Rattle.cell_nursery.proofs.EntryLaws.{well-after, InRoom, room_after}
 use Rattle.format.specs.Payload.{payload_bytes}
 use Rattle.format.specs.Record.{stats_of, record_bytes}
-use Rattle.format.specs.RecordLaws.{length-record, Fits, decode-whole, decode-cut}
+use Rattle.format.proofs.RecordLaws.{length-record, Fits, decode-whole, decode-cut}
 use Rattle.journal.specs.Journal.{End, Step, records_from, pass_record, scan, damages, damaged, apply_record, read_journal}
-use Rattle.journal.specs.ReadLaws.{record-refused, record-taken, passed-refused, passed-taken, records_in, records-taken, records-refused}
+use Rattle.journal.proofs.ReadLaws.{record-refused, record-taken, passed-refused, passed-taken, records_in, records-taken, records-refused}
 use Rattle.journal_laws.specs.DeltaLaws.{Accepted, accepted-taken}
 
 -- a delta that a nursery accepts is accepted by one with the same entries, whichever of them wait

@@ -22,18 +22,19 @@ use Rattle.cell_nursery.specs.Delta.{Room, apply_delta}
 use Rattle.cell_nursery.specs.Layout.{record_of, entries_table, waiting_table, cells_table, room_of, state_of, delay_in_range, holds}
 use Rattle.cell_nursery.specs.Calls as nursery
 use Rattle.cell_nursery.specs.Calls.{Changed, laid, laid_out, new_call}
-use Rattle.cell_nursery.specs.HashLaws.{U64}
+use Rattle.cell_nursery.proofs.HashLaws.{U64}
 use Rattle.slices.specs.ByteLaws.{U8, u8-drop, u8-part}
-use Rattle.cell_nursery.specs.LayoutLaws.{WellFormed, Held, held, length-entries_table, length-waiting_table, length-cells_table, state_of-laid, holds-laid}
-use Rattle.cell_nursery.specs.SettingLaws.{new-taken}
-use Rattle.cell_nursery.specs.EntryLaws.{well-empty, well-after, InRoom, room_after}
+use Rattle.cell_nursery.proofs.LayoutLaws.{WellFormed, Held, held, length-entries_table, length-waiting_table, length-cells_table, state_of-laid, holds-laid}
+use Rattle.cell_nursery.proofs.SettingLaws.{new-taken}
+use Rattle.cell_nursery.proofs.EntryLaws.{well-empty, well-after, InRoom, room_after}
 use Rattle.format.specs.Record.{Decoding, decode}
-use Rattle.format.specs.RefusalLaws.{stated_hash, decode-known}
-use Rattle.format.specs.TakenLaws.{taken-lent}
+use Rattle.format.proofs.RefusalLaws.{decode-known}
+use Rattle.format.specs.Record.{stated_hash}
+use Rattle.format.proofs.TakenLaws.{taken-lent}
 use Rattle.journal.specs.declared.JournalRead.{JournalRead}
 use Rattle.journal.specs.declared.JournalScan.{JournalScan}
 use Rattle.journal.specs.Journal.{records_from, scan, damages, damaged, apply_record, read_journal, effect, not_read, read_out, read_call}
-use Rattle.journal.specs.ReadLaws.{RecordRefused, record-refused, record-taken, records_in, records-taken, records-refused, same-records, read-bad, read-damaged}
+use Rattle.journal.proofs.ReadLaws.{RecordRefused, record-refused, record-taken, records_in, records-taken, records-refused, same-records, read-bad, read-damaged}
 use Rattle.journal_laws.specs.DeltaLaws.{delta-read, delta-fits, taken-accepted}
 use Rattle.journal_laws.specs.EndLaws.{Reached, start, reached-next, undamaged-matches}
 use Rattle.journal_read.specs.declared.Step.{Step}

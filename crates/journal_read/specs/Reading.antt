@@ -8,7 +8,7 @@ use Rattle.cell_nursery.specs.Delta.{Room, apply_delta}
 use Rattle.cell_nursery.specs.Layout.{room_of, state_of}
 use Rattle.cell_nursery.specs.Calls.{Changed, laid_out}
 use Rattle.format.specs.Record.{Decoding, decode}
-use Rattle.format.specs.RefusalLaws.{stated_hash}
+use Rattle.format.specs.Record.{stated_hash}
 use Rattle.journal.specs.Journal as journal
 use Rattle.journal.specs.Journal.{records_from, apply_record, ReadIn, read_out}
 use Rattle.journal_read.specs.declared.Step.{Step}

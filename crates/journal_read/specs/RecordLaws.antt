@@ -13,8 +13,8 @@ use Rattle.cell_nursery.specs.Calls.{laid_out, on_state, delta_call}
 use Rattle.format.specs.declared.Decoded.{Decoded}
 use Rattle.format.specs.Record.{Decoding, decode}
 use Rattle.format.specs.Calls.{decoded_of, decode_call}
-use Rattle.format.specs.RefusalLaws.{stated_hash}
-use Rattle.format.specs.TakenLaws.{taken-lent}
+use Rattle.format.specs.Record.{stated_hash}
+use Rattle.format.proofs.TakenLaws.{taken-lent}
 use Rattle.journal_read.specs.Reading.{stepped, beside, record_on, record_call}
 
 -- ---- decoding's answer

@@ -13,9 +13,9 @@ use Rattle.base.specs.declared.Answer.TheVariants.{Taken, Refused}
 use Rattle.format.specs.declared.Decoded.{Decoded}
 use Rattle.format.specs.Record.{Decoding, decode}
 use Rattle.format.specs.Calls.{decoded_of, decode_call}
-use Rattle.format.specs.TakenLaws.{taken-lent}
+use Rattle.format.proofs.TakenLaws.{taken-lent}
 use Rattle.journal.specs.Journal.{pass_record, scan}
-use Rattle.journal.specs.ReadLaws.{records_in, passed-refused, passed-taken, records-end, records-taken, records-refused}
+use Rattle.journal.proofs.ReadLaws.{records_in, passed-refused, passed-taken, records-end, records-taken, records-refused}
 
 module _ (hash : List ℕ → List ℕ) (s : List ℕ) where
   -- the rest of the journal leads to the same end

@@ -8,9 +8,8 @@ ghost use Rattle.base.specs.Logic.{overlay};
 ghost use Rattle.cell_nursery.specs.Entries.{insert_bytes};
 ghost use Rattle.cell_nursery.specs.Drain.{listing_bytes};
 ghost use Rattle.cell_nursery.specs.Layout.{entry_of, entries_of};
-ghost use Rattle.cell_nursery.specs.LayoutLaws.{EntriesHeld, CellsHeld};
-ghost use Rattle.cell_nursery.specs.CheckLaws.{entry_at_row};
-ghost use Rattle.cell_nursery.specs.OutputLaws.{RowFits, head_bytes, tail_bytes};
+ghost use Rattle.cell_nursery.specs.Held.{CellsHeld, EntriesHeld};
+ghost use Rattle.cell_nursery.specs.Rows.{RowFits, entry_at_row, head_bytes, tail_bytes};
 
 use cell_nursery::Nursery;
 

@@ -5,7 +5,7 @@ ghost use Rattle.std.specs.Prelude.{◌≡◌, ◌*◌, ◌≤◌, length};
 ghost use Rattle.rows.specs.Table.{rows_of};
 ghost use Rattle.cell_nursery.specs.Layout.{entry_row, waiting_row, holds_entries, holds_waiting, holds_cells};
 ghost use Rattle.cell_nursery.specs.Layout as layout;
-ghost use Rattle.cell_nursery.specs.CheckLaws.{fields_hold, rounds_hold};
+ghost use Rattle.cell_nursery.specs.Rows.{fields_hold, rounds_hold};
 
 use cell_nursery::{Nursery, delay_in_range};
 

@@ -5,7 +5,7 @@ ghost use Rattle.std.specs.Prelude.{◌≡◌, true, ◌||◌, map};
 ghost use Rattle.base.specs.Logic.{any, elem, repeated};
 ghost use Rattle.rows.specs.Keys.{keys, first_four};
 ghost use Rattle.cell_nursery.specs.Layout.{holds};
-ghost use Rattle.cell_nursery.specs.LayoutLaws.{EntriesHeld};
+ghost use Rattle.cell_nursery.specs.Held.{EntriesHeld};
 ghost use Rattle.cell_nursery.specs.Calls.{effect, length_width, delta_call};
 ghost use Rattle.delta_items.specs.Walk.{inserts_in, inserts_fit};
 ghost use Rattle.nursery_commit.specs.CommitLaws.{refused_with};

@@ -10,8 +10,8 @@ ghost use Rattle.rows.specs.Keys.{keys, first_four};
 ghost use Rattle.rows.specs.Wide.{key_of};
 ghost use Rattle.cell_nursery.specs.Layout.{holds_entries, holds_cells};
 ghost use Rattle.cell_nursery.specs.Calls.{lookup_call, data_call};
-ghost use Rattle.cell_nursery.specs.LayoutLaws.{EntriesHeld};
-ghost use Rattle.cell_nursery.specs.SearchLaws.{index_of};
+ghost use Rattle.cell_nursery.specs.Held.{EntriesHeld};
+ghost use Rattle.cell_nursery.specs.Rows.{index_of};
 
 use base::{Answer, Refusal};
 use cell_nursery::{Data, Found, Nursery};

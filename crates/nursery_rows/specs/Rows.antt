@@ -5,7 +5,7 @@ use Rattle.rows.specs.declared.Wide.{Wide}
 use Rattle.rows.specs.Keys.{first_four}
 use Rattle.rows.specs.Wide.{key_of}
 use Rattle.cell_nursery.specs.Layout.{hash_of, EntryRow, WaitingRow, waiting_row}
-use Rattle.cell_nursery.specs.KeepLaws.{hash-behind}
+use Rattle.cell_nursery.proofs.KeepLaws.{hash-behind}
 use Rattle.hash_words.specs.WideLaws.{words_of}
 
 abbrev pub row_for : Wide → ℕ → ℕ → ℕ → ℕ → EntryRow

@@ -5,7 +5,7 @@ ghost use Rattle.rows.specs.Table.{rows_of, table_of, Laid};
 ghost use Rattle.rows.specs.Keys.{first_four};
 ghost use Rattle.rows.specs.Wide.{key_of};
 ghost use Rattle.cell_nursery.specs.Layout.{entry_row};
-ghost use Rattle.cell_nursery.specs.StepLaws.{later, earlier};
+ghost use Rattle.cell_nursery.specs.Rows.{earlier, later};
 ghost use Rattle.nursery_rows.specs.Rows.{row_for};
 
 use crate::waiting;

@@ -6,7 +6,7 @@ ghost use Rattle.rows.specs.Table.{rows_of, table_of, Laid};
 ghost use Rattle.rows.specs.Keys.{keys, first_word, place};
 ghost use Rattle.rows.specs.Wide.{key_of};
 ghost use Rattle.cell_nursery.specs.Layout.{waiting_row};
-ghost use Rattle.cell_nursery.specs.KeepLaws.{Keeping};
+ghost use Rattle.cell_nursery.specs.Held.{Keeping};
 ghost use Rattle.nursery_rows.specs.Rows.{waiter_for, other, inserted_at};
 
 use rows::Wide;

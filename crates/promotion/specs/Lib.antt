@@ -1,5 +1,4 @@
--- `Promotion`: what is claimed. `Lines`: evaluated lines. `TrackLaws`: one entry in a nursery. `PromotionLaws`: the claim, on a box.
+-- `Promotion`: what is claimed.
+-- `Lines`: evaluated lines.
 pub mod Promotion
 pub mod Lines
-pub mod TrackLaws
-pub mod PromotionLaws

@@ -20,8 +20,8 @@ use Rattle.delta_items.specs.WalkLaws.{delta-whole, delta-none, fit-inserts, cel
 use Rattle.format.specs.declared.Decoded.{Decoded}
 use Rattle.format.specs.Record.{Decoding, parse, stats_of, used_bytes, leftover, decode}
 use Rattle.format.specs.Calls.{no_stats, decoded_of, parse_call, decode_call}
-use Rattle.format.specs.ExactLaws.{parsed}
-use Rattle.format.specs.RefusalLaws.{stated, Whole, Matches, payload-short, payload-past, payload-items}
+use Rattle.format.proofs.ExactLaws.{parsed}
+use Rattle.format.proofs.RefusalLaws.{stated, Whole, Matches, payload-short, payload-past, payload-items}
 use Rattle.record_read.specs.declared.Framed.TheVariants.{Len}
 use Rattle.record_read.specs.Judged.{decoding_of, payload_call, exact_call, Framing}
 

@@ -8,7 +8,7 @@ use Rattle.format.specs.declared.Decoded.{Decoded}
 use Rattle.format.specs.Payload.{Payload, payload_of}
 use Rattle.format.specs.Record.{Decoding, stats_of, leftover}
 use Rattle.format.specs.Calls.{decoded_of, parse_call}
-use Rattle.format.specs.RefusalLaws.{stated, Whole}
+use Rattle.format.proofs.RefusalLaws.{stated, Whole}
 use Rattle.record_read.specs.declared.Framed.{Framed}
 use Rattle.record_read.specs.declared.Framed.TheVariants.{Len, Refused}
 

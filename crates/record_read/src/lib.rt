@@ -11,7 +11,7 @@ ghost use Rattle.blake3.specs.Spec.{hash};
 ghost use Rattle.blake3.specs.Mode.{mode_of, hash_from};
 ghost use Rattle.format.specs.Record.{used_bytes};
 ghost use Rattle.format.specs.Calls.{decoded_of, parse_call, decode_call, decode_under};
-ghost use Rattle.format.specs.RefusalLaws.{stated_hash};
+ghost use Rattle.format.specs.Record.{stated_hash};
 ghost use Rattle.record_read.specs.Judged.{payload_call, exact_call, Framing};
 
 use base::{Answer, Refusal};

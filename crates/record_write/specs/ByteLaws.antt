@@ -14,8 +14,8 @@ use Rattle.base.specs.ListLaws.{or-false}
 use Rattle.slices.specs.Laws.{length_part, paste-append, paste-prepend, paste-start, part-paste}
 use Rattle.slices.specs.NumberLaws.{digits-unle}
 use Rattle.cell_nursery.specs.Entries.{Entry, cell_bytes, hash_bytes, insert_bytes}
-use Rattle.cell_nursery.specs.ItemLaws as items
-use Rattle.cell_nursery.specs.ItemLaws.{length-inserts}
+use Rattle.cell_nursery.proofs.ItemLaws as items
+use Rattle.cell_nursery.proofs.ItemLaws.{length-inserts}
 use Rattle.slices.specs.ByteLaws.{all-reverse, U8, u8-drop, u8-part}
 use Rattle.delta_items.specs.Walk.{hash_in, cell_len, cell_in, insert_in, insert_len, inserts_in, long_cell, hashes_in}
 use Rattle.delta_items.specs.WalkLaws.{cell-length}

@@ -18,7 +18,7 @@ use Rattle.delta_items.specs.Walk.{inserts_in, inserts_len, long_cell, hashes_in
 use Rattle.delta_items.specs.WalkLaws.{delta-whole, delta-none, fit-removes, length-inserts, length-hashes, too-long}
 use Rattle.format.specs.Payload.{payload_bytes}
 use Rattle.format.specs.Record.{hashed, sealed, record_bytes, stats_of, encode}
-use Rattle.format.specs.RecordLaws as format
+use Rattle.format.proofs.RecordLaws as format
 use Rattle.format.specs.Calls.{effect, encoded_out, encode_call}
 use Rattle.record_write.specs.Laid.{laid_at, head_bytes, refused_with}
 use Rattle.slices.specs.ByteLaws.{U8, u8-drop}

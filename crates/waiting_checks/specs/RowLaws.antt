@@ -13,8 +13,9 @@ use Rattle.rows.specs.Keys.{first_four, keys, place}
 use Rattle.rows.proofs.KeyLaws.{length-keys, key-at, place-le, place_at, place_up, place_down}
 use Rattle.cell_nursery.specs.declared.Nursery.{Nursery}
 use Rattle.cell_nursery.specs.Layout.{hash_of, WaitingRow, waiting_row}
-use Rattle.cell_nursery.specs.LayoutLaws.{EntriesHeld}
-use Rattle.cell_nursery.specs.CheckLaws.{waiter_at_row, from-waiter}
+use Rattle.cell_nursery.specs.Held.{EntriesHeld}
+use Rattle.cell_nursery.proofs.CheckLaws.{from-waiter}
+use Rattle.cell_nursery.specs.Rows.{waiter_at_row}
 use Rattle.waiting_checks.specs.Marks.{is_marked, with_mark, within, passes, marks_with, place_of, names_at}
 use Rattle.waiting_checks.specs.WindowLaws.{all_pass}
 

@@ -20,8 +20,9 @@ use Rattle.rows.proofs.KeyLaws.{place-lt, place-ge}
 use Rattle.cell_nursery.specs.declared.Nursery.{Nursery}
 use Rattle.cell_nursery.specs.Entries.{names, tied}
 use Rattle.cell_nursery.specs.Layout.{hash_of, entry_row, WaitingRow, waiting_row, entry_of, waiter_of, entries_of, waiting_of, state_of}
-use Rattle.cell_nursery.specs.LayoutLaws.{EntriesHeld, hashes-keys}
-use Rattle.cell_nursery.specs.SearchLaws.{row_of}
+use Rattle.cell_nursery.proofs.LayoutLaws.{hashes-keys}
+use Rattle.cell_nursery.specs.Held.{EntriesHeld}
+use Rattle.cell_nursery.proofs.SearchLaws.{row_of}
 use Rattle.waiting_checks.specs.Marks.{clean, place_of, names_at}
 
 ltb-suc : (a b : ℕ) → ltb (suc a) (suc b) ≡ ltb a b

@@ -10,8 +10,8 @@ ghost use Rattle.rows.specs.Keys.{keys, first_four, place};
 ghost use Rattle.rows.specs.Wide.{key_of};
 ghost use Rattle.cell_nursery.specs.Entries as entries;
 ghost use Rattle.cell_nursery.specs.Layout.{waiting_row, state_of};
-ghost use Rattle.cell_nursery.specs.LayoutLaws.{EntriesHeld, WaitingHeld};
-ghost use Rattle.cell_nursery.specs.CheckLaws.{waiter_at_row};
+ghost use Rattle.cell_nursery.specs.Held.{EntriesHeld, WaitingHeld};
+ghost use Rattle.cell_nursery.specs.Rows.{waiter_at_row};
 ghost use Rattle.waiting_checks.specs.Marks.{is_marked, with_mark, within, place_of, names_at, row_passes, row_marks, window_clean};
 
 use cell_nursery::Nursery;

@@ -25,11 +25,11 @@ use Rattle.cell_nursery.specs.Calls.{length_width}
 use Rattle.slices.specs.ByteLaws.{U8, u8-bytes}
 use Rattle.format.specs.Record.{Encoding, Decoding, encode, decode}
 use Rattle.format.specs.Calls.{no_stats, encoded_out, encode_call, encode_under, decoded_of, decode_call, decode_under}
-use Rattle.format.specs.ModeLaws.{encode-key, decode-key}
+use Rattle.format.proofs.ModeLaws.{encode-key, decode-key}
 use Rattle.journal.specs.Journal.{scan, not_scanned, scan_under, damages, damaged, ReadIn, not_read, read_out, read_call, read_under}
-use Rattle.journal.specs.ModeLaws as mode
+use Rattle.journal.proofs.ModeLaws as mode
 use Rattle.journal.specs.Convert.{Conversion, dropped_bytes, convert, converted_out, convert_call}
-use Rattle.journal.specs.ReadLaws.{read-damaged, read-undamaged, read-delay}
+use Rattle.journal.proofs.ReadLaws.{read-damaged, read-undamaged, read-delay}
 use Rattle.journal_laws.specs.ConvertLaws as journal
 use Rattle.journal_laws.specs.LoadLaws.{read-holds}
 use Rattle.journal_laws.specs.EndLaws.{end_numbers, read-ends}

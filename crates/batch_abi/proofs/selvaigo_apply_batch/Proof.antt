@@ -1,6 +1,6 @@
 -- `batch_abi::selvaigo_apply_batch` meets its contract: the call under it, over words. Assumes nothing.
 use borrow.Author.Rules.{rules}
-use Rattle.word_calls.specs.CountersSaidLaws.{batch-said}
+use Rattle.word_calls.proofs.CountersSaidLaws.{batch-said}
 use Rattle.batch_abi.proofs.selvaigo_apply_batch.Statement.{statement}
 use Rattle.batch_abi.proofs.selvaigo_apply_batch.Tie as tie
 

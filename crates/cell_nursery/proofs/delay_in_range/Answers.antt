@@ -1,7 +1,7 @@
 -- `cell_nursery::delay_in_range`: not 0, and at most 10,000.
 use Rattle.std.proofs.Common.{sym, inl, arith, le-leb}
 use Rattle.cell_nursery.specs.Layout.{delay_in_range}
-use Rattle.cell_nursery.specs.SettingLaws.{delay-range}
+use Rattle.cell_nursery.proofs.SettingLaws.{delay-range}
 use Rattle.cell_nursery.proofs.delay_in_range.Goals as goal
 
 pub returns-then-delay-eq0 : goal.returns-then-delay-eq0

@@ -1,6 +1,6 @@
 -- `counters_abi::selvaigo_alloc_idx` meets its contract: the call under it, over words. Assumes nothing.
 use borrow.Author.Rules.{rules}
-use Rattle.word_calls.specs.CountersSaidLaws.{alloc-said}
+use Rattle.word_calls.proofs.CountersSaidLaws.{alloc-said}
 use Rattle.counters_abi.proofs.selvaigo_alloc_idx.Statement.{statement}
 use Rattle.counters_abi.proofs.selvaigo_alloc_idx.Tie as tie
 

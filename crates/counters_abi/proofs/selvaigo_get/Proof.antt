@@ -1,6 +1,6 @@
 -- `counters_abi::selvaigo_get` meets its contract: the call under it, over words. Assumes nothing.
 use borrow.Author.Rules.{rules}
-use Rattle.word_calls.specs.CountersSaidLaws.{get-said}
+use Rattle.word_calls.proofs.CountersSaidLaws.{get-said}
 use Rattle.counters_abi.proofs.selvaigo_get.Statement.{statement}
 use Rattle.counters_abi.proofs.selvaigo_get.Tie as tie
 

@@ -1,6 +1,6 @@
 -- `counters_abi::selvaigo_get_held` meets its contract: the call under it where a state is held, over words. Assumes nothing.
 use borrow.Author.Rules.{rules}
-use Rattle.word_calls.specs.CountersSaidLaws.{get-said}
+use Rattle.word_calls.proofs.CountersSaidLaws.{get-said}
 use Rattle.counters_abi.proofs.selvaigo_get_held.Statement.{statement}
 use Rattle.counters_abi.proofs.selvaigo_get_held.Tie as tie
 

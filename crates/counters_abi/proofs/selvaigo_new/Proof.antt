@@ -1,7 +1,7 @@
 -- `counters_abi::selvaigo_new` meets its contract: the call under it, over words. Assumes nothing.
 use borrow.Author.Rules.{rules}
 use Rattle.word_calls.specs.CountersSaid.{new_said}
-use Rattle.word_calls.specs.CountersSaidLaws.{read-said}
+use Rattle.word_calls.proofs.CountersSaidLaws.{read-said}
 use Rattle.counters_abi.proofs.selvaigo_new.Statement.{statement}
 use Rattle.counters_abi.proofs.selvaigo_new.Tie as tie
 

@@ -1,7 +1,7 @@
 -- `drain_abi::selvaigo_drain_promotable_held` meets its contract: the call under it where a state is held, over words. Assumes nothing.
 use borrow.Author.Rules.{rules}
 use Rattle.word_calls.specs.NurserySaid.{drain_said}
-use Rattle.word_calls.specs.NurserySaidLaws.{drained-said}
+use Rattle.word_calls.proofs.NurserySaidLaws.{drained-said}
 use Rattle.drain_abi.proofs.selvaigo_drain_promotable_held.Statement.{statement}
 use Rattle.drain_abi.proofs.selvaigo_drain_promotable_held.Tie as tie
 

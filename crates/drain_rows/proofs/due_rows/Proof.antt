@@ -1,6 +1,6 @@
 -- `drain_rows::due_rows` meets its contract: the place of the first round that is not due.
 -- Assumes nothing.
-use Rattle.cell_nursery.specs.PrefixLaws.{due-early, due-late}
+use Rattle.cell_nursery.proofs.PrefixLaws.{due-early, due-late}
 use Rattle.rows.specs.Keys.{first_word, keys, place}
 use native.Mathlib.Numerals.{add-one}
 use mathlib.Core.Path.{ap, ◌∙◌}

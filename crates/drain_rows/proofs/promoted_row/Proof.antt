@@ -1,8 +1,7 @@
 -- `drain_rows::promoted_row` meets its contract: the row of the hash, where the rounds agree.
 -- Assumes nothing.
-use Rattle.cell_nursery.specs.PrefixLaws.{waiter-key, index-within, row-same-round, row-other-round, row-missing}
-use Rattle.cell_nursery.specs.CheckLaws.{waiter_at_row}
-use Rattle.cell_nursery.specs.SearchLaws.{index_of}
+use Rattle.cell_nursery.proofs.PrefixLaws.{waiter-key, index-within, row-same-round, row-other-round, row-missing}
+use Rattle.cell_nursery.specs.Rows.{index_of, waiter_at_row}
 use Rattle.cell_nursery.specs.Layout.{hash_of, hash_at}
 use Rattle.rows.proofs.KeyLaws.{length-keys}
 use Rattle.rows.specs.Keys.{first_four, keys}

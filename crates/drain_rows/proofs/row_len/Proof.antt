@@ -1,8 +1,8 @@
 -- `drain_rows::row_len` meets its contract.
 -- Assumes nothing.
-use Rattle.cell_nursery.specs.PrefixLaws.{handed-length, handed-none}
-use Rattle.cell_nursery.specs.OutputLaws.{row_fits}
-use Rattle.cell_nursery.specs.CheckLaws.{waiter_at_row}
+use Rattle.cell_nursery.proofs.PrefixLaws.{handed-length, handed-none}
+use Rattle.cell_nursery.proofs.OutputLaws.{row_fits}
+use Rattle.cell_nursery.specs.Rows.{waiter_at_row}
 use lib.ListN.{length}
 use mathlib.Core.Path.{sym, ap}
 use native.Mathlib.Omega.{arith}

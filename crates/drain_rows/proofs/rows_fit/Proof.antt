@@ -2,9 +2,10 @@
 -- Assumes nothing.
 use lib.ListN.{length, take}
 use mathlib.Core.List.{[]}
-use Rattle.cell_nursery.specs.PrefixLaws.{handed_out, waiter-of-row}
-use Rattle.cell_nursery.specs.OutputLaws.{flat-within, length-next}
-use Rattle.cell_nursery.specs.LayoutLaws.{number-waiting}
+use Rattle.cell_nursery.proofs.PrefixLaws.{waiter-of-row}
+use Rattle.cell_nursery.specs.Rows.{handed_out}
+use Rattle.cell_nursery.proofs.OutputLaws.{flat-within, length-next}
+use Rattle.cell_nursery.proofs.LayoutLaws.{number-waiting}
 use Rattle.cell_nursery.specs.Layout.{waiting_row, waiter_of, entries_of, waiting_of}
 use Rattle.cell_nursery.specs.Entries.{Waiting}
 use Rattle.base.specs.Logic.{flat}

@@ -1,8 +1,8 @@
 -- `drain_rows::write_row` meets its contract: two pastes side by side, or none.
 -- Assumes nothing.
-use Rattle.cell_nursery.specs.PrefixLaws.{handed-length, handed-some, handed-none}
-use Rattle.cell_nursery.specs.OutputLaws.{row_fits, promoted-written}
-use Rattle.cell_nursery.specs.CheckLaws.{waiter_at_row}
+use Rattle.cell_nursery.proofs.PrefixLaws.{handed-length, handed-some, handed-none}
+use Rattle.cell_nursery.proofs.OutputLaws.{row_fits, promoted-written}
+use Rattle.cell_nursery.specs.Rows.{waiter_at_row}
 use lib.Seq.{paste, paste-zero}
 use lib.ListN.{length, get_or}
 use mathlib.Core.List.{List, []}

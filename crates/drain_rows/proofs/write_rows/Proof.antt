@@ -1,8 +1,9 @@
 -- `drain_rows::write_rows` meets its contract. The invariant: the bytes of the first i rows stand at the start.
 -- Assumes nothing.
-use Rattle.cell_nursery.specs.PrefixLaws.{handed_out, waiter-of-row}
-use Rattle.cell_nursery.specs.OutputLaws.{flat-within, length-next, paste-next, paste_all}
-use Rattle.cell_nursery.specs.LayoutLaws.{number-waiting}
+use Rattle.cell_nursery.proofs.PrefixLaws.{waiter-of-row}
+use Rattle.cell_nursery.specs.Rows.{handed_out}
+use Rattle.cell_nursery.proofs.OutputLaws.{flat-within, length-next, paste-next, paste_all}
+use Rattle.cell_nursery.proofs.LayoutLaws.{number-waiting}
 use Rattle.cell_nursery.specs.Layout.{waiting_row, waiter_of, entries_of, waiting_of}
 use Rattle.cell_nursery.specs.Entries.{Waiting}
 use Rattle.base.specs.Logic.{flat}

@@ -1,7 +1,7 @@
 -- `entries_abi::selvaigo_get_data_held` meets its contract: the call under it where a state is held, over words. Assumes nothing.
 use borrow.Author.Rules.{rules}
 use Rattle.word_calls.specs.NurserySaid.{data_said}
-use Rattle.word_calls.specs.NurserySaidLaws.{placed-said}
+use Rattle.word_calls.proofs.NurserySaidLaws.{placed-said}
 use Rattle.entries_abi.proofs.selvaigo_get_data_held.Statement.{statement}
 use Rattle.entries_abi.proofs.selvaigo_get_data_held.Tie as tie
 

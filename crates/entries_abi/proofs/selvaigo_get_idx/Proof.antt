@@ -1,7 +1,7 @@
 -- `entries_abi::selvaigo_get_idx` meets its contract: the call under it, over words. Assumes nothing.
 use borrow.Author.Rules.{rules}
 use Rattle.word_calls.specs.NurserySaid.{idx_said}
-use Rattle.word_calls.specs.NurserySaidLaws.{found-said}
+use Rattle.word_calls.proofs.NurserySaidLaws.{found-said}
 use Rattle.entries_abi.proofs.selvaigo_get_idx.Statement.{statement}
 use Rattle.entries_abi.proofs.selvaigo_get_idx.Tie as tie
 

@@ -1,7 +1,7 @@
 -- `entries_abi::selvaigo_get_idx_held` meets its contract: the call under it where a state is held, over words. Assumes nothing.
 use borrow.Author.Rules.{rules}
 use Rattle.word_calls.specs.NurserySaid.{idx_said}
-use Rattle.word_calls.specs.NurserySaidLaws.{found-said}
+use Rattle.word_calls.proofs.NurserySaidLaws.{found-said}
 use Rattle.entries_abi.proofs.selvaigo_get_idx_held.Statement.{statement}
 use Rattle.entries_abi.proofs.selvaigo_get_idx_held.Tie as tie
 

@@ -11,7 +11,7 @@ use Rattle.blake3.specs.Spec.{hash}
 use Rattle.blake3.specs.Equations.{length-hash}
 use Rattle.format.specs.Record.{used_bytes}
 use Rattle.format.specs.Calls.{decoded_of, parse_call}
-use Rattle.format.specs.RefusalLaws.{parse-known}
+use Rattle.format.proofs.RefusalLaws.{parse-known}
 use Rattle.journal_convert.specs.RecordLaws.{stop_ahead, Turn}
 use Rattle.journal_convert.specs.PassLaws.{Writing, writing_start, writing-next, stop-known, known, later-turn, kept-room, list-room, rest-room, written, list_written}
 use Rattle.journal_convert.proofs.rewrite.Statement.{statement}

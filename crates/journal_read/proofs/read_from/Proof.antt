@@ -9,7 +9,7 @@ use Rattle.cell_nursery.specs.Entries.{State}
 use Rattle.cell_nursery.specs.Layout.{room_of, delay_in_range}
 use Rattle.journal.specs.declared.JournalRead.{JournalRead}
 use Rattle.journal.specs.Journal.{End, effect, damaged, read_out}
-use Rattle.journal.specs.ReadLaws.{read-undamaged}
+use Rattle.journal.proofs.ReadLaws.{read-undamaged}
 use Rattle.journal_read.specs.ReadLaws.{fresh_holds, fresh-read, held-read, pass-says, not_set, not-read}
 use Rattle.journal_read.proofs.read_from.Statement.{statement}
 use Rattle.journal_read.proofs.read_from.Tie as tie

@@ -8,7 +8,7 @@ use Rattle.blake3.specs.Mode.{mode_of}
 use Rattle.blake3.specs.ModeLaws.{started}
 use Rattle.journal.specs.declared.JournalRead.{JournalRead}
 use Rattle.journal.specs.Journal.{effect, not_read, read_call}
-use Rattle.journal.specs.ModeLaws.{read-bad-key, read-good}
+use Rattle.journal.proofs.ModeLaws.{read-bad-key, read-good}
 use Rattle.journal_read.proofs.read_journal.Statement.{statement}
 use Rattle.journal_read.proofs.read_journal.Tie as tie
 

@@ -8,7 +8,7 @@ use Rattle.blake3.specs.Mode.{mode_of}
 use Rattle.blake3.specs.ModeLaws.{started}
 use Rattle.journal.specs.Journal as journal
 use Rattle.journal.specs.Journal.{not_scanned}
-use Rattle.journal.specs.ModeLaws.{scan-bad, scan_good}
+use Rattle.journal.proofs.ModeLaws.{scan-bad, scan_good}
 use Rattle.journal_scan.proofs.scan.Statement.{statement}
 use Rattle.journal_scan.proofs.scan.Tie as tie
 

@@ -1,7 +1,7 @@
 -- `listing_abi::selvaigo_snapshot_entries` meets its contract: the call under it, over words. Assumes nothing.
 use borrow.Author.Rules.{rules}
 use Rattle.word_calls.specs.NurserySaid.{listing_said}
-use Rattle.word_calls.specs.NurserySaidLaws.{written-said}
+use Rattle.word_calls.proofs.NurserySaidLaws.{written-said}
 use Rattle.listing_abi.proofs.selvaigo_snapshot_entries.Statement.{statement}
 use Rattle.listing_abi.proofs.selvaigo_snapshot_entries.Tie as tie
 

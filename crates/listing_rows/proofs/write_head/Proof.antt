@@ -1,6 +1,6 @@
 -- `listing_rows::write_head` meets its contract: two pastes side by side.
 -- Assumes nothing.
-use Rattle.cell_nursery.specs.OutputLaws.{head-written}
+use Rattle.cell_nursery.proofs.OutputLaws.{head-written}
 use Rattle.rows.specs.Wide.{key_of}
 use mathlib.Core.Path.{◌∙◌}
 use borrow.Author.Rules.{rules}

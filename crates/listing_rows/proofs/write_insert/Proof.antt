@@ -1,6 +1,6 @@
 -- `listing_rows::write_insert` meets its contract: three pastes side by side.
 -- Assumes nothing.
-use Rattle.cell_nursery.specs.OutputLaws.{insert-written}
+use Rattle.cell_nursery.proofs.OutputLaws.{insert-written}
 use mathlib.Core.Path.{◌∙◌}
 use native.Mathlib.Omega.{arith}
 use borrow.Author.Rules.{rules}

@@ -3,8 +3,8 @@
 use mathlib.Core.List.{[]}
 use lib.ListN.{length, take}
 use lib.Seq.{paste, paste-zero}
-use Rattle.cell_nursery.specs.OutputLaws.{row_fits, insert-room, insert-length, insert-next, paste_all}
-use Rattle.cell_nursery.specs.LayoutLaws.{number-entries}
+use Rattle.cell_nursery.proofs.OutputLaws.{row_fits, insert-room, insert-length, insert-next, paste_all}
+use Rattle.cell_nursery.proofs.LayoutLaws.{number-entries}
 use Rattle.cell_nursery.specs.Layout.{entries_of}
 use Rattle.cell_nursery.specs.Drain.{listing_bytes}
 use Rattle.cell_nursery.specs.Entries.{insert_bytes}

@@ -1,7 +1,7 @@
 -- `listing_rows::write_tail` meets its contract: two pastes side by side.
 -- Assumes nothing.
 use lib.ListN.{get_or}
-use Rattle.cell_nursery.specs.OutputLaws.{tail_written}
+use Rattle.cell_nursery.proofs.OutputLaws.{tail_written}
 use mathlib.Core.Path.{refl, ◌∙◌}
 use Prim.Native.Nat.{◌+◌, ◌*◌}
 use native.Mathlib.Omega.{arith}

@@ -1,7 +1,7 @@
 -- `nursery_abi::selvaigo_apply_commit` meets its contract: the call under it, over words. Assumes nothing.
 use borrow.Author.Rules.{rules}
 use Rattle.word_calls.specs.NurserySaid.{commit_said}
-use Rattle.word_calls.specs.NurserySaidLaws.{committed-said}
+use Rattle.word_calls.proofs.NurserySaidLaws.{committed-said}
 use Rattle.nursery_abi.proofs.selvaigo_apply_commit.Statement.{statement}
 use Rattle.nursery_abi.proofs.selvaigo_apply_commit.Tie as tie
 

@@ -1,7 +1,7 @@
 -- `nursery_abi::selvaigo_apply_commit_held` meets its contract: the call under it where a state is held, over words. Assumes nothing.
 use borrow.Author.Rules.{rules}
 use Rattle.word_calls.specs.NurserySaid.{commit_said}
-use Rattle.word_calls.specs.NurserySaidLaws.{committed-said}
+use Rattle.word_calls.proofs.NurserySaidLaws.{committed-said}
 use Rattle.nursery_abi.proofs.selvaigo_apply_commit_held.Statement.{statement}
 use Rattle.nursery_abi.proofs.selvaigo_apply_commit_held.Tie as tie
 

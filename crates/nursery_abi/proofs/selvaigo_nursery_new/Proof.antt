@@ -1,7 +1,7 @@
 -- `nursery_abi::selvaigo_nursery_new` meets its contract: the call under it, over words. Assumes nothing.
 use borrow.Author.Rules.{rules}
 use Rattle.word_calls.specs.NurserySaid.{empty_said}
-use Rattle.word_calls.specs.NurserySaidLaws.{made-said}
+use Rattle.word_calls.proofs.NurserySaidLaws.{made-said}
 use Rattle.nursery_abi.proofs.selvaigo_nursery_new.Statement.{statement}
 use Rattle.nursery_abi.proofs.selvaigo_nursery_new.Tie as tie
 

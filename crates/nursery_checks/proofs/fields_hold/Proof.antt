@@ -3,7 +3,8 @@
 use lib.ListN.{drop}
 use Rattle.cell_nursery.specs.Layout.{entry_row}
 use Rattle.rows.specs.Table.{rows_of}
-use Rattle.cell_nursery.specs.CheckLaws.{fields_hold, fields-late, fields-long, fields-off, fields-next, fields-past, fields-end}
+use Rattle.cell_nursery.proofs.CheckLaws.{fields-late, fields-long, fields-off, fields-next, fields-past, fields-end}
+use Rattle.cell_nursery.specs.Rows.{fields_hold}
 use mathlib.Core.Path.{◌≡◌, sym, ◌∙◌}
 use Prim.Native.Nat.{◌-◌, ◌≤◌}
 use native.Mathlib.Omega.{arith}

@@ -1,8 +1,8 @@
 -- `nursery_checks::holds` meets its contract: test after test.
 -- Assumes nothing.
 use borrow.Author.Tests.{not-true, not-false}
-use Rattle.cell_nursery.specs.CheckLaws.{holds-not-entries, holds-not-waiting, holds-not-cells, holds-narrow, holds-tied}
-use Rattle.cell_nursery.specs.LayoutLaws.{entries-held, waiting-held}
+use Rattle.cell_nursery.proofs.CheckLaws.{holds-not-entries, holds-not-waiting, holds-not-cells, holds-narrow, holds-tied}
+use Rattle.cell_nursery.proofs.LayoutLaws.{entries-held, waiting-held}
 use mathlib.Core.Path.{sym, ◌∙◌}
 use borrow.Author.Rules.{rules}
 use Rattle.nursery_checks.proofs.holds.Statement.{statement}

@@ -1,6 +1,6 @@
 -- `nursery_checks::holds_cells` meets its contract.
 -- Assumes nothing.
-use Rattle.cell_nursery.specs.CheckLaws.{cells-past, cells-by-zeros}
+use Rattle.cell_nursery.proofs.CheckLaws.{cells-past, cells-by-zeros}
 use mathlib.Core.Path.{◌∙◌}
 use borrow.Author.Rules.{rules}
 use Rattle.nursery_checks.proofs.holds_cells.Statement.{statement}

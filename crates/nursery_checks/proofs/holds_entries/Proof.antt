@@ -1,7 +1,7 @@
 -- `nursery_checks::holds_entries` meets its contract: test after test, the delay first.
 -- Assumes nothing.
 use borrow.Author.Tests.{not-true, not-false}
-use Rattle.cell_nursery.specs.CheckLaws.{entries-bad-delay, entries-not-laid, entries-not-ascending, entries-by-fields}
+use Rattle.cell_nursery.proofs.CheckLaws.{entries-bad-delay, entries-not-laid, entries-not-ascending, entries-by-fields}
 use Rattle.rows.proofs.TableLaws.{holds-laid}
 use Rattle.rows.specs.Table.{holds_rows}
 use mathlib.Core.Bool.{true}

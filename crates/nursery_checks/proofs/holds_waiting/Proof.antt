@@ -1,7 +1,7 @@
 -- `nursery_checks::holds_waiting` meets its contract: test after test.
 -- Assumes nothing.
 use borrow.Author.Tests.{not-true, not-false}
-use Rattle.cell_nursery.specs.CheckLaws.{waiting-not-laid, waiting-by-rounds}
+use Rattle.cell_nursery.proofs.CheckLaws.{waiting-not-laid, waiting-by-rounds}
 use Rattle.rows.proofs.TableLaws.{holds-laid}
 use mathlib.Core.Path.{sym, ◌∙◌}
 use borrow.Author.Rules.{rules}

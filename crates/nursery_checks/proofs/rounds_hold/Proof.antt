@@ -3,7 +3,8 @@
 use lib.ListN.{drop}
 use Rattle.cell_nursery.specs.Layout.{waiting_row}
 use Rattle.rows.specs.Table.{rows_of}
-use Rattle.cell_nursery.specs.CheckLaws.{rounds_hold, rounds-back, rounds-late, rounds-next, rounds-end}
+use Rattle.cell_nursery.proofs.CheckLaws.{rounds-back, rounds-late, rounds-next, rounds-end}
+use Rattle.cell_nursery.specs.Rows.{rounds_hold}
 use mathlib.Core.Path.{◌≡◌, sym, ◌∙◌}
 use Prim.Native.Nat.{◌-◌, ◌≤◌}
 use native.Mathlib.Omega.{arith}

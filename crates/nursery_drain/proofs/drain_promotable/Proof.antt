@@ -1,6 +1,6 @@
 -- `nursery_drain::drain_promotable` meets its contract: the check, then draining.
 -- Assumes nothing.
-use Rattle.cell_nursery.specs.PrefixLaws.{drain-broken}
+use Rattle.cell_nursery.proofs.PrefixLaws.{drain-broken}
 use borrow.Author.Tests.{not-true, not-false}
 use mathlib.Core.Path.{sym, ◌∙◌}
 use borrow.Author.Rules.{rules}

@@ -1,8 +1,9 @@
 -- `nursery_drain::drain_promotable_held` meets its contract: the rows that are due, their bytes, and the rows behind them moved to the front.
 -- Assumes nothing.
-use Rattle.cell_nursery.specs.PrefixLaws.{handed_out, due-within, drain-full, drain-done}
-use Rattle.cell_nursery.specs.LayoutLaws.{Held, held}
-use Rattle.cell_nursery.specs.HashLaws.{U64}
+use Rattle.cell_nursery.proofs.PrefixLaws.{due-within, drain-full, drain-done}
+use Rattle.cell_nursery.specs.Rows.{handed_out}
+use Rattle.cell_nursery.proofs.LayoutLaws.{Held, held}
+use Rattle.cell_nursery.proofs.HashLaws.{U64}
 use Rattle.cell_nursery.specs.Layout.{entries_of, waiting_of}
 use Rattle.base.specs.Logic.{flat}
 use borrow.Author.Tests.{leb-true, leb-false, not-true, not-false}

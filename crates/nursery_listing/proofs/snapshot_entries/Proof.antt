@@ -1,7 +1,7 @@
 -- `nursery_listing::snapshot_entries` meets its contract: the checks, then the listing.
 -- Assumes nothing.
 use borrow.Author.Tests.{not-true, not-false}
-use Rattle.cell_nursery.specs.OutputLaws.{listing-not-entries, listing-not-cells}
+use Rattle.cell_nursery.proofs.OutputLaws.{listing-not-entries, listing-not-cells}
 use mathlib.Core.Path.{sym, ◌∙◌}
 use borrow.Author.Rules.{rules}
 use Rattle.nursery_listing.proofs.snapshot_entries.Statement.{statement}

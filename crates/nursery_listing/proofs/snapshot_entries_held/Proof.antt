@@ -1,7 +1,8 @@
 -- `nursery_listing::snapshot_entries_held` meets its contract: the length by the record, then the bytes.
 -- Assumes nothing.
-use Rattle.cell_nursery.specs.OutputLaws.{listing_full, listing-done}
-use Rattle.cell_nursery.specs.LayoutLaws.{EntriesHeld, CellsHeld, entries-held, cells-held}
+use Rattle.cell_nursery.proofs.OutputLaws.{listing_full, listing-done}
+use Rattle.cell_nursery.proofs.LayoutLaws.{entries-held, cells-held}
+use Rattle.cell_nursery.specs.Held.{CellsHeld, EntriesHeld}
 use native.Mathlib.Omega.{arith}
 use borrow.Author.Rules.{rules}
 use Rattle.nursery_listing.proofs.snapshot_entries_held.Statement.{statement}

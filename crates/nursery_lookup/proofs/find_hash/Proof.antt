@@ -2,7 +2,7 @@
 -- Assumes nothing.
 use lib.ListN.{get_or, drop}
 use borrow.Author.Tests.{ltb-true, ltb-false}
-use Rattle.cell_nursery.specs.SearchLaws.{search-hit, search-miss}
+use Rattle.cell_nursery.proofs.SearchLaws.{search-hit, search-miss}
 use Rattle.rows.specs.Wide.{key_of}
 use Rattle.rows.proofs.KeyLaws.{key-at}
 use Rattle.rows.specs.Keys.{keys, first_four}

@@ -1,7 +1,7 @@
 -- `nursery_lookup::get_data` meets its contract: the checks, then the search.
 -- Assumes nothing.
 use borrow.Author.Tests.{not-true, not-false}
-use Rattle.cell_nursery.specs.SearchLaws.{data-not-entries, data-not-cells}
+use Rattle.cell_nursery.proofs.SearchLaws.{data-not-entries, data-not-cells}
 use Rattle.base.specs.Bytes.{unbe}
 use mathlib.Core.Path.{sym, ◌∙◌}
 use borrow.Author.Rules.{rules}

@@ -2,8 +2,9 @@
 -- Assumes nothing.
 use lib.ListN.{length}
 use lib.Seq.{take_all}
-use Rattle.cell_nursery.specs.SearchLaws.{index_of, data-found, data-absent}
-use Rattle.cell_nursery.specs.LayoutLaws.{entries-held, cells-held}
+use Rattle.cell_nursery.proofs.SearchLaws.{data-found, data-absent}
+use Rattle.cell_nursery.specs.Rows.{index_of}
+use Rattle.cell_nursery.proofs.LayoutLaws.{entries-held, cells-held}
 use Rattle.rows.specs.Keys.{keys, first_four}
 use Rattle.base.specs.Bytes.{unbe}
 use mathlib.Core.Path.{◌≡◌, ap, ◌∙◌}

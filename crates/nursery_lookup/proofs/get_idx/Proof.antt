@@ -1,7 +1,7 @@
 -- `nursery_lookup::get_idx` meets its contract: the check, then the search.
 -- Assumes nothing.
 use borrow.Author.Tests.{not-true, not-false}
-use Rattle.cell_nursery.specs.SearchLaws.{get-broken}
+use Rattle.cell_nursery.proofs.SearchLaws.{get-broken}
 use Rattle.base.specs.Bytes.{unbe}
 use mathlib.Core.Path.{sym, ◌∙◌}
 use borrow.Author.Rules.{rules}

@@ -1,9 +1,10 @@
 -- `nursery_lookup::get_idx_held` meets its contract: the index in the row that has the hash.
 -- Assumes nothing.
 use lib.ListN.{length}
-use Rattle.cell_nursery.specs.LayoutLaws.{entries-held}
+use Rattle.cell_nursery.proofs.LayoutLaws.{entries-held}
 use lib.Seq.{take_all}
-use Rattle.cell_nursery.specs.SearchLaws.{index_of, get-found, get_absent}
+use Rattle.cell_nursery.proofs.SearchLaws.{get-found, get_absent}
+use Rattle.cell_nursery.specs.Rows.{index_of}
 use Rattle.rows.specs.Keys.{keys, first_four}
 use Rattle.base.specs.Bytes.{unbe}
 use mathlib.Core.Path.{◌≡◌, ap, ◌∙◌}

@@ -1,7 +1,7 @@
 -- `nursery_table::new` meets its contract: the delay is judged, then three tables are filled with zeros.
 -- Assumes nothing.
-use Rattle.cell_nursery.specs.CheckLaws.{new-tables}
-use Rattle.cell_nursery.specs.SettingLaws.{new-bad}
+use Rattle.cell_nursery.proofs.CheckLaws.{new-tables}
+use Rattle.cell_nursery.proofs.SettingLaws.{new-bad}
 use mathlib.Core.Path.{sym, ◌∙◌}
 use borrow.Author.Tests.{not-true, not-false}
 use borrow.Author.Rules.{rules}

@@ -1,7 +1,7 @@
 -- `reading_abi::selvaigo_deserialize_trusted` meets its contract: the call under it, over words. Assumes nothing.
 use borrow.Author.Rules.{rules}
 use Rattle.word_calls.specs.CountersSaid.{deserialize_said}
-use Rattle.word_calls.specs.CountersSaidLaws.{read-said}
+use Rattle.word_calls.proofs.CountersSaidLaws.{read-said}
 use Rattle.reading_abi.proofs.selvaigo_deserialize_trusted.Statement.{statement}
 use Rattle.reading_abi.proofs.selvaigo_deserialize_trusted.Tie as tie
 

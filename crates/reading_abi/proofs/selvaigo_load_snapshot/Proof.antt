@@ -2,7 +2,7 @@
 use borrow.Author.Rules.{rules}
 use mathlib.Core.Path.{refl}
 use Rattle.word_calls.specs.CountersSaid.{load_said}
-use Rattle.word_calls.specs.CountersSaidLaws.{loaded-said}
+use Rattle.word_calls.proofs.CountersSaidLaws.{loaded-said}
 use Rattle.reading_abi.proofs.selvaigo_load_snapshot.Statement.{statement}
 use Rattle.reading_abi.proofs.selvaigo_load_snapshot.Tie as tie
 

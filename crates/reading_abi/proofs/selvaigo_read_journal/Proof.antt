@@ -1,7 +1,7 @@
 -- `reading_abi::selvaigo_read_journal` meets its contract: the call under it, over words. Assumes nothing.
 use borrow.Author.Rules.{rules}
 use Rattle.word_calls.specs.RecordSaid.{journal_said}
-use Rattle.word_calls.specs.RecordSaidLaws.{read-said}
+use Rattle.word_calls.proofs.RecordSaidLaws.{read-said}
 use Rattle.reading_abi.proofs.selvaigo_read_journal.Statement.{statement}
 use Rattle.reading_abi.proofs.selvaigo_read_journal.Tie as tie
 

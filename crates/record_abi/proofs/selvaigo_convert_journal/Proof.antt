@@ -1,6 +1,6 @@
 -- `record_abi::selvaigo_convert_journal` meets its contract: the call under it, over words. Assumes nothing.
 use Rattle.word_calls.specs.RecordSaid.{convert_said}
-use Rattle.word_calls.specs.RecordSaidLaws.{converted-said}
+use Rattle.word_calls.proofs.RecordSaidLaws.{converted-said}
 use borrow.Author.Rules.{rules}
 use Rattle.record_abi.proofs.selvaigo_convert_journal.Statement.{statement}
 use Rattle.record_abi.proofs.selvaigo_convert_journal.Tie as tie

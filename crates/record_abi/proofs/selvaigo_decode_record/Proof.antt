@@ -1,6 +1,6 @@
 -- `record_abi::selvaigo_decode_record` meets its contract: the call under it, over words. Assumes nothing.
 use Rattle.word_calls.specs.RecordSaid.{decode_said}
-use Rattle.word_calls.specs.RecordSaidLaws.{decoded-said}
+use Rattle.word_calls.proofs.RecordSaidLaws.{decoded-said}
 use borrow.Author.Rules.{rules}
 use Rattle.record_abi.proofs.selvaigo_decode_record.Statement.{statement}
 use Rattle.record_abi.proofs.selvaigo_decode_record.Tie as tie

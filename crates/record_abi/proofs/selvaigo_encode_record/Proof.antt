@@ -1,6 +1,6 @@
 -- `record_abi::selvaigo_encode_record` meets its contract: the call under it, over words. Assumes nothing.
 use Rattle.word_calls.specs.RecordSaid.{encode_said}
-use Rattle.word_calls.specs.RecordSaidLaws.{encoded-said}
+use Rattle.word_calls.proofs.RecordSaidLaws.{encoded-said}
 use borrow.Author.Rules.{rules}
 use Rattle.record_abi.proofs.selvaigo_encode_record.Statement.{statement}
 use Rattle.record_abi.proofs.selvaigo_encode_record.Tie as tie

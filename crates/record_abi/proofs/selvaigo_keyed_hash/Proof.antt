@@ -1,7 +1,7 @@
 -- `record_abi::selvaigo_keyed_hash` meets its contract: the calls under it, over words. Assumes nothing.
 use mathlib.Core.Path.{sym, ◌∙◌}
 use borrow.Author.Rules.{rules}
-use Rattle.word_calls.specs.RecordSaidLaws.{keyed-bad, keyed-said}
+use Rattle.word_calls.proofs.RecordSaidLaws.{keyed-bad, keyed-said}
 use Rattle.record_abi.proofs.selvaigo_keyed_hash.Statement.{statement}
 use Rattle.record_abi.proofs.selvaigo_keyed_hash.Tie as tie
 

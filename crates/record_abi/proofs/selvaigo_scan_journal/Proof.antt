@@ -1,6 +1,6 @@
 -- `record_abi::selvaigo_scan_journal` meets its contract: the call under it, over words. Assumes nothing.
 use Rattle.word_calls.specs.RecordSaid.{scan_said}
-use Rattle.word_calls.specs.RecordSaidLaws.{scanned-said}
+use Rattle.word_calls.proofs.RecordSaidLaws.{scanned-said}
 use borrow.Author.Rules.{rules}
 use Rattle.record_abi.proofs.selvaigo_scan_journal.Statement.{statement}
 use Rattle.record_abi.proofs.selvaigo_scan_journal.Tie as tie

@@ -7,7 +7,7 @@ use borrow.Author.Rules.{rules}
 use Rattle.blake3.specs.Mode.{mode_of}
 use Rattle.blake3.specs.ModeLaws.{started}
 use Rattle.format.specs.Calls.{decode_call}
-use Rattle.format.specs.ModeLaws.{decode-bad, decode-good}
+use Rattle.format.proofs.ModeLaws.{decode-bad, decode-good}
 use Rattle.record_read.proofs.decode_record.Statement.{statement}
 use Rattle.record_read.proofs.decode_record.Tie as tie
 

@@ -3,7 +3,7 @@
 use mathlib.Core.Path.{ap, ◌∙◌}
 use borrow.Author.Rules.{rules}
 use Rattle.slices.specs.ByteLaws.{u8-bytes}
-use Rattle.format.specs.RefusalLaws.{stated_hash}
+use Rattle.format.specs.Record.{stated_hash}
 use Rattle.record_read.specs.Judged.{exact_call}
 use Rattle.record_read.specs.DecodeLaws.{used-inside, exact-parsed}
 use Rattle.record_read.proofs.decode_record_held.Statement.{statement}

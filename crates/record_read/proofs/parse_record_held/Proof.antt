@@ -4,7 +4,7 @@ use mathlib.Core.Path.{sym, ◌∙◌}
 use native.Mathlib.Omega.{arith}
 use borrow.Author.Rules.{rules}
 use mathlib.Core.Path.{refl}
-use Rattle.format.specs.RefusalLaws.{stated_hash}
+use Rattle.format.specs.Record.{stated_hash}
 use Rattle.record_read.specs.DecodeLaws.{parse-held}
 use Rattle.record_read.proofs.parse_record_held.Statement.{statement}
 use Rattle.record_read.proofs.parse_record_held.Tie as tie

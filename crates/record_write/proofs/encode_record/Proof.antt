@@ -7,7 +7,7 @@ use borrow.Author.Rules.{rules}
 use Rattle.blake3.specs.Mode.{mode_of}
 use Rattle.blake3.specs.ModeLaws.{started}
 use Rattle.format.specs.Calls.{encoded_out, encode_call}
-use Rattle.format.specs.ModeLaws.{encode-bad, encode-good}
+use Rattle.format.proofs.ModeLaws.{encode-bad, encode-good}
 use Rattle.record_write.proofs.encode_record.Statement.{statement}
 use Rattle.record_write.proofs.encode_record.Tie as tie
 

@@ -1,6 +1,6 @@
 -- `shrink_abi::selvaigo_shrink_if_needed` meets its contract: the call under it, over words. Assumes nothing.
 use borrow.Author.Rules.{rules}
-use Rattle.word_calls.specs.CountersSaidLaws.{shrink-said}
+use Rattle.word_calls.proofs.CountersSaidLaws.{shrink-said}
 use Rattle.shrink_abi.proofs.selvaigo_shrink_if_needed.Statement.{statement}
 use Rattle.shrink_abi.proofs.selvaigo_shrink_if_needed.Tie as tie
 

@@ -1,6 +1,6 @@
 -- `shrink_abi::selvaigo_shrink_if_needed_held` meets its contract: the call under it where a state is held, over words. Assumes nothing.
 use borrow.Author.Rules.{rules}
-use Rattle.word_calls.specs.CountersSaidLaws.{shrink-said}
+use Rattle.word_calls.proofs.CountersSaidLaws.{shrink-said}
 use Rattle.shrink_abi.proofs.selvaigo_shrink_if_needed_held.Statement.{statement}
 use Rattle.shrink_abi.proofs.selvaigo_shrink_if_needed_held.Tie as tie
 

@@ -1,6 +1,6 @@
 -- `snapshot_abi::selvaigo_serialize` meets its contract: the call under it, over words. Assumes nothing.
 use borrow.Author.Rules.{rules}
-use Rattle.word_calls.specs.CountersSaidLaws.{serialize-said}
+use Rattle.word_calls.proofs.CountersSaidLaws.{serialize-said}
 use Rattle.snapshot_abi.proofs.selvaigo_serialize.Statement.{statement}
 use Rattle.snapshot_abi.proofs.selvaigo_serialize.Tie as tie
 

@@ -1,6 +1,6 @@
 -- `snapshot_abi::selvaigo_serialize_held` meets its contract: the call under it where a state is held, over words. Assumes nothing.
 use borrow.Author.Rules.{rules}
-use Rattle.word_calls.specs.CountersSaidLaws.{serialize-said}
+use Rattle.word_calls.proofs.CountersSaidLaws.{serialize-said}
 use Rattle.snapshot_abi.proofs.selvaigo_serialize_held.Statement.{statement}
 use Rattle.snapshot_abi.proofs.selvaigo_serialize_held.Tie as tie
 

@@ -1,6 +1,6 @@
 -- `snapshot_abi::selvaigo_serialized_len` meets its contract: the call under it, over words. Assumes nothing.
 use borrow.Author.Rules.{rules}
-use Rattle.word_calls.specs.CountersSaidLaws.{length-said}
+use Rattle.word_calls.proofs.CountersSaidLaws.{length-said}
 use Rattle.snapshot_abi.proofs.selvaigo_serialized_len.Statement.{statement}
 use Rattle.snapshot_abi.proofs.selvaigo_serialized_len.Tie as tie
 

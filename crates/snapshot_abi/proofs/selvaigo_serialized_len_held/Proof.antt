@@ -4,7 +4,7 @@ use mathlib.Core.Bool.{true}
 use borrow.Author.Rules.{rules}
 use Rattle.counters.specs.Layout.{holds}
 use Rattle.snapshot_write.specs.CallLaws.{length_taken}
-use Rattle.word_calls.specs.CountersSaidLaws.{length-said}
+use Rattle.word_calls.proofs.CountersSaidLaws.{length-said}
 use Rattle.snapshot_abi.proofs.selvaigo_serialized_len_held.Statement.{statement}
 use Rattle.snapshot_abi.proofs.selvaigo_serialized_len_held.Tie as tie
 

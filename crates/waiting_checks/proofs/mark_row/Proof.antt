@@ -9,8 +9,8 @@ use Rattle.base.specs.Laws.{ascending-sorted}
 use Rattle.rows.specs.Keys.{first_four, keys, place}
 use Rattle.rows.specs.Wide.{key_of}
 use Rattle.cell_nursery.specs.Layout.{WaitingRow}
-use Rattle.cell_nursery.specs.CheckLaws.{waiter_at_row}
-use Rattle.cell_nursery.specs.PrefixLaws.{waiter-key}
+use Rattle.cell_nursery.specs.Rows.{waiter_at_row}
+use Rattle.cell_nursery.proofs.PrefixLaws.{waiter-key}
 use Rattle.waiting_checks.specs.Marks.{is_marked, with_mark, within, place_of, names_at}
 use Rattle.waiting_checks.specs.WindowLaws.{within-bounds}
 use Rattle.waiting_checks.specs.RowLaws.{row-outside, row-wrong, row-again, row_new}

@@ -5,8 +5,8 @@ use native.Mathlib.Omega.{arith}
 use borrow.Author.Rules.{rules}
 use borrow.Author.Tests.{ltb-true, ltb-false}
 use Rattle.rows.specs.Wide.{key_of}
-use Rattle.cell_nursery.specs.CheckLaws.{waiter_at_row}
-use Rattle.cell_nursery.specs.PrefixLaws.{waiter-key}
+use Rattle.cell_nursery.specs.Rows.{waiter_at_row}
+use Rattle.cell_nursery.proofs.PrefixLaws.{waiter-key}
 use Rattle.waiting_checks.specs.RowLaws.{names-past, names-other, names-round}
 use Rattle.waiting_checks.proofs.names.Statement.{statement}
 use Rattle.waiting_checks.proofs.names.Tie as tie

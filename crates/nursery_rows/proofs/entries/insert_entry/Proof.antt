@@ -1,4 +1,4 @@
-use Rattle.cell_nursery.specs.PlaceLaws.{row_in}
+use Rattle.cell_nursery.proofs.PlaceLaws.{row_in}
 use Rattle.nursery_rows.specs.Rows.{row_for}
 use mathlib.Core.Path.{◌∙◌}
 use Prim.Native.Nat.{◌+◌, ◌-◌}

@@ -1,5 +1,5 @@
-use Rattle.cell_nursery.specs.PlaceLaws.{place-left}
-use Rattle.cell_nursery.specs.PlaceLaws.{Moving, moving-start, moving-turn, moving-done}
+use Rattle.cell_nursery.proofs.PlaceLaws.{place-left}
+use Rattle.cell_nursery.proofs.PlaceLaws.{Moving, moving-start, moving-turn, moving-done}
 use Prim.Native.Nat.{◌-◌, ◌≤◌}
 use native.Mathlib.Omega.{arith}
 use borrow.Author.Rules.{rules}

@@ -1,6 +1,6 @@
 use Rattle.rows.specs.Table.{rows_of, table_of}
 use Rattle.cell_nursery.specs.Layout.{entry_row}
-use Rattle.cell_nursery.specs.PlaceLaws.{moved_from, row_out}
+use Rattle.cell_nursery.proofs.PlaceLaws.{moved_from, row_out}
 use mathlib.Core.Path.{ap, ◌∙◌}
 use Prim.Native.Nat.{ℕ, ◌-◌}
 use native.Mathlib.Omega.{arith}

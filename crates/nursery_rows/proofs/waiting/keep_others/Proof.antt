@@ -1,5 +1,6 @@
 use Rattle.rows.specs.Wide.{key_of}
-use Rattle.cell_nursery.specs.KeepLaws.{Keeping, keeping_start, keeping-turn}
+use Rattle.cell_nursery.proofs.KeepLaws.{keeping_start, keeping-turn}
+use Rattle.cell_nursery.specs.Held.{Keeping}
 use Rattle.nursery_rows.specs.Rows.{other}
 use mathlib.Core.Path.{◌≡◌}
 use Prim.Native.Nat.{◌-◌}

@@ -1,5 +1,5 @@
 use Rattle.rows.specs.Wide.{key_of}
-use Rattle.cell_nursery.specs.KeepLaws.{keeping-done}
+use Rattle.cell_nursery.proofs.KeepLaws.{keeping-done}
 use Rattle.nursery_rows.specs.Rows.{other}
 use mathlib.Core.Path.{◌∙◌}
 use Prim.Native.Nat.{◌-◌}

@@ -3,7 +3,7 @@
 use mathlib.Core.Path.{sym}
 use native.Mathlib.Omega.{arith}
 use Rattle.rows.proofs.WideLaws.{Words}
-use Rattle.cell_nursery.specs.KeepLaws.{differ-first, differ-second, differ-third, by_last}
+use Rattle.cell_nursery.proofs.KeepLaws.{differ-first, differ-second, differ-third, by_last}
 use Rattle.nursery_rows.proofs.waiting.same.Statement.{statement}
 use Rattle.nursery_rows.proofs.waiting.same.Tie as tie
 

@@ -1,0 +1,2 @@
+-- `OutputLaws`: an output counts by its length alone.
+pub mod OutputLaws

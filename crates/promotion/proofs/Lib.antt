@@ -1,0 +1,4 @@
+-- `TrackLaws`: one entry in a nursery.
+-- `PromotionLaws`: the claim, on a box.
+pub mod PromotionLaws
+pub mod TrackLaws
