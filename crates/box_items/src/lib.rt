@@ -15,7 +15,7 @@ use counters::Counters;
 use delta_items::End;
 
 // What running an item returns: whether it stands for a call, the answer, and the box's records after it. A bad item's answer is 20.
-#[derive(Drop)]
+#[derive(Clone, Copy)]
 struct Ran {
     pub good: bool,
     pub answer: Answer,
@@ -24,7 +24,7 @@ struct Ran {
 }
 
 // What an item of a run gives: its line, whether it stands for a call, and the box's records after it.
-#[derive(Drop)]
+#[derive(Clone, Copy)]
 pub struct Next {
     pub line: Line,
     pub good: bool,

@@ -8,7 +8,7 @@ ghost use Rattle.box_lines.specs.Lines.{kind_of, body_len, Output, output, nothi
 use byte_numbers::{read_le16, read_le32};
 
 // A line: the item's place and kind, the answer's number, and the next index and live total as they are then.
-#[derive(Drop)]
+#[derive(Clone, Copy)]
 pub struct Line {
     pub place: u64,
     pub kind: u16,
@@ -18,7 +18,7 @@ pub struct Line {
 }
 
 // How many bytes of an output have text, and whether all of it found room.
-#[derive(Drop)]
+#[derive(Clone, Copy)]
 pub struct Printed {
     pub len: usize,
     pub whole: bool,

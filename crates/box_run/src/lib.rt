@@ -14,7 +14,7 @@ use cell_nursery::Nursery;
 use counters::{Counters, NextIdx, ShrinkSettings};
 
 // A box's records.
-#[derive(Drop)]
+#[derive(Clone, Copy)]
 pub struct Records {
     pub counters: Counters,
     pub nursery: Nursery,

@@ -122,7 +122,7 @@ pub fn spells(text: &[u8], bytes: &[u8]) -> bool
 }
 
 // A step: where its call ends, where its wanted answer begins and ends, and where the next step begins.
-#[derive(Drop)]
+#[derive(Clone, Copy)]
 pub struct Step {
     pub end: usize,
     pub wanted: usize,

@@ -13,7 +13,7 @@ fn say_number(n: u64) {
 }
 
 // How many steps there were, and how many of them agree.
-#[derive(Drop)]
+#[derive(Clone, Copy)]
 pub struct Tally {
     pub steps: u64,
     pub good: u64,

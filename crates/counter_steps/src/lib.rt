@@ -16,7 +16,7 @@ ghost use Rattle.counter_steps.specs.Steps.{of_kind, leaves_row, pass_of, apply_
 use counters::CounterMaintenance;
 
 // The kinds of transitions that are counted: cells that come and go, rows that come and go, and bits that are cleared.
-#[derive(Drop)]
+#[derive(Clone, Copy)]
 pub enum Kind {
     Birth,
     Death,

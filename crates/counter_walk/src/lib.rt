@@ -19,7 +19,7 @@ use counter_steps::Kind;
 use counters::{CounterMaintenance, Counters, NextIdx};
 
 // What the records say together: whether one is at an unallocated index, whether one has a false old count, and tallies.
-#[derive(Drop)]
+#[derive(Clone, Copy)]
 pub struct Sums {
     pub unallocated: bool,
     pub false_old: bool,
@@ -31,7 +31,7 @@ pub struct Sums {
 }
 
 // What is done with the next record.
-#[derive(Drop)]
+#[derive(Clone, Copy)]
 pub enum Phase {
     Look,
     Again,
@@ -42,7 +42,7 @@ pub enum Phase {
 
 // What the walk holds: the next record at `at` of `len`; while the later ones are asked for its index, the record `of` and
 // that index; how many rows the table has; the answer, and the state record after the batch.
-#[derive(Drop)]
+#[derive(Clone, Copy)]
 pub struct Walk {
     pub phase: Phase,
     pub at: usize,

@@ -22,7 +22,7 @@ ghost use Rattle.delta_items.specs.Walk.{
 use byte_numbers::{read_le16, read_le32, read_le64};
 
 // Where a part of the items ends, or that it runs past them.
-#[derive(Drop)]
+#[derive(Clone, Copy)]
 pub enum End {
     At(usize),
     Past,

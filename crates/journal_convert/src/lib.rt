@@ -19,7 +19,7 @@ use journal::Converted;
 use record_read::{parse_record, parse_record_held};
 
 // How far records are taken one after another, and the bytes of the new journal and of the list.
-#[derive(Drop)]
+#[derive(Clone, Copy)]
 struct Sizes {
     stop: usize,
     len: usize,

@@ -20,7 +20,7 @@ use nursery_commit::apply_commit_held;
 use record_read::decode_record_held;
 
 // What one record did: len is how many bytes it has, 0 where it is none.
-#[derive(Drop)]
+#[derive(Clone, Copy)]
 struct Step {
     answer: Answer,
     nursery: Nursery,

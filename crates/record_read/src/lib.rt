@@ -22,7 +22,7 @@ use delta_items::{End, cell_bytes, removes_at};
 use format::{Decoded, RecordStats, metadata_len, no_stats};
 
 // The length of a whole record's payload, or the refusal by the tests before the hash.
-#[derive(Drop)]
+#[derive(Clone, Copy)]
 enum Framed {
     Len(usize),
     Refused(Refusal),

@@ -8,7 +8,7 @@ use roaring_cursor::{Step, next, start};
 const MANY: u64 = 10000000;
 
 // Members that go on by one step, which the first two give: the first, the step, how many there are, and the last.
-#[derive(Drop)]
+#[derive(Clone, Copy)]
 struct Row {
     first: u64,
     step: u64,

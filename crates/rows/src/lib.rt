@@ -5,5 +5,5 @@
 #![tactic(auto)]
 
 // A key of four words, the highest first.
-#[derive(Drop)]
+#[derive(Clone, Copy)]
 pub struct Wide(pub u64, pub u64, pub u64, pub u64);

@@ -10,7 +10,7 @@ use snapshot_tiers::large::any_low;
 
 // What a snapshot holds: the next index, the live total, where the large counts start, how many these are, and how many counts
 // both tiers have.
-#[derive(Drop)]
+#[derive(Clone, Copy)]
 pub struct Plan {
     pub next: u64,
     pub live: u64,
@@ -19,7 +19,7 @@ pub struct Plan {
     pub rows: usize,
 }
 
-#[derive(Drop)]
+#[derive(Clone, Copy)]
 pub enum Verdict {
     Fits(Plan),
     Refused(Refusal),

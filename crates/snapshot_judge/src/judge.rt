@@ -8,7 +8,7 @@ use snapshot_tiers::Head;
 use snapshot_tiers::large::{large_after, large_head, sorted};
 
 // What is judged: an index is in both tiers or isn't below the next one; else how many counts there are.
-#[derive(Drop)]
+#[derive(Clone, Copy)]
 pub struct Judged {
     pub clash: bool,
     pub rows: usize,

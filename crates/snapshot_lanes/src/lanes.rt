@@ -13,7 +13,7 @@ use roaring_cursor::{Cursor, Step, next, start};
 use snapshot_tiers::{Head, nothing};
 
 // A set: whether it has a member left, the first one, where its bytes stand, and the cursor behind that member.
-#[derive(Drop)]
+#[derive(Clone, Copy)]
 pub struct Lane {
     pub live: bool,
     pub head: u64,

@@ -6,7 +6,7 @@ use byte_numbers::read_le64;
 use roaring_check::is_bitmap64;
 
 // The place behind the payloads; or they run past the bytes; or one is no bitmap.
-#[derive(Drop)]
+#[derive(Clone, Copy)]
 pub enum End {
     At(usize),
     Torn,

@@ -7,7 +7,7 @@ ghost use Rattle.std.specs.Prelude.{◌≡◌};
 ghost use Rattle.snapshot_tiers.specs.Heads.{no_head};
 
 // A count, where one is found.
-#[derive(Drop)]
+#[derive(Clone, Copy)]
 pub struct Head {
     pub found: bool,
     pub idx: u64,

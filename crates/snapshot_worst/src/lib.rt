@@ -20,7 +20,7 @@ use snapshot_write::serialize_held;
 const MOST: usize = 200;
 
 // What an input asks for: a number of stored counts, or nothing.
-#[derive(Drop)]
+#[derive(Clone, Copy)]
 pub enum Number {
     Of(usize),
     None,
