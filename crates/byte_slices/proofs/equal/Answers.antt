@@ -1,3 +1,4 @@
+-- `byte_slices::equal`. The invariant: the answer so far and the comparison of what is left give the answer.
 use mathlib.Core.Path.{sym}
 use native.Mathlib.Omega.{arith}
 use borrow.Author.Rules.{rules}

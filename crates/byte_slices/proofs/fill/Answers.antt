@@ -1,3 +1,4 @@
+-- `byte_slices::fill`. The invariant: so far the places hold what a paste of as many puts there.
 use mathlib.Core.Path.{◌≡◌, refl}
 use native.Mathlib.Omega.{arith}
 use borrow.Author.Rules.{rules}

@@ -1,3 +1,4 @@
+-- `byte_slices::move_down`. The invariant: the items so far stand where a paste of as many puts them.
 use mathlib.Core.Path.{◌≡◌, refl}
 use native.Mathlib.Omega.{arith}
 use borrow.Author.Rules.{rules}

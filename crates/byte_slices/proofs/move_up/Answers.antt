@@ -1,3 +1,4 @@
+-- `byte_slices::move_up`. The invariant: what is left to move, moved, gives the whole move.
 use mathlib.Core.Path.{◌≡◌, ◌∙◌}
 use native.Mathlib.Omega.{arith}
 use borrow.Author.Rules.{rules}

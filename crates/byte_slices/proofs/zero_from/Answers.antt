@@ -1,3 +1,4 @@
+-- `byte_slices::zero_from`. The invariant: the answer so far and the test of what is left give the answer.
 use native.Mathlib.Omega.{arith}
 use Rattle.slices.specs.Turns.{zero_turn, zero-end}
 use Rattle.byte_slices.proofs.zero_from.Goals as goal

@@ -11,27 +11,12 @@ use native.Mathlib.Numerals.{add-one}
 use Rattle.row_checks.proofs.ascend_wide.Goals as goal
 
 -- the rows that are compared lie in the table
-bound : (c : tie.In-loop invariant-loop decreases-loop) (k : ℕ) → k ≤ c.before.loop.i + 1
-    → k * c.before.before.before.args.w + c.before.before.before.args.w ≤ c.before.before.before.args.n * c.before.before.before.args.w
-bound c k h = row_fits c.before.before.before.args.w c.before.before.before.args.n k (omega arith)
 
 pub loop-i-init : goal.loop-i-init
 loop-i-init c = let a = c.args in (omega arith, ascend-start (keys first_four a.w a.n a.t.now))
 
 pub overflow_add-i : goal.overflow_add-i
 overflow_add-i c = omega (arith, le-mul_of_pos_right {m = c.args.w} c.args.n (omega arith))
-
-pub overflow_mul-i : goal.overflow_mul-i
-overflow_mul-i c = omega (arith, bound c c.loop-i.i (omega arith))
-
-pub wide_at-requires : goal.wide_at-requires
-wide_at-requires c = omega (arith, bound c c.loop-i.i (omega arith))
-
-pub overflow_mul-i-in-loop-i : goal.overflow_mul-i-in-loop-i
-overflow_mul-i-in-loop-i c = omega (arith, bound c (c.loop-i.i + 1) (omega arith))
-
-pub wide_at-requires-in-loop-i : goal.wide_at-requires-in-loop-i
-wide_at-requires-in-loop-i c = omega (arith, bound c (c.loop-i.i + 1) (omega arith))
 
 pub returns-then-not-below : goal.returns-then-not-below
 returns-then-not-below c =

@@ -1,3 +1,4 @@
+-- `word_slices::copy_at`. The invariant: the items so far stand where a paste of as many puts them.
 use mathlib.Core.Path.{◌≡◌, refl}
 use native.Mathlib.Omega.{arith}
 use borrow.Author.Rules.{rules}

@@ -1,0 +1,11 @@
+-- `byte_numbers::read_le64`. The number of its two halves.
+-- Assumes nothing.
+use mathlib.Core.Path.{sym, ap₂, ◌∙◌}
+use Prim.Native.Nat.{ℕ, ◌+◌, ◌*◌}
+use Rattle.slices.specs.NumberLaws.{unle-split}
+use Rattle.byte_numbers.proofs.read_le64.Goals as goal
+
+pub returns : goal.returns
+returns c =
+    let a = c.args in
+    ap₂ (λ (x y : ℕ). x + 4294967296 * y) c.read_le32.ensures c.read_le32-2.ensures ∙ sym (unle-split a.s.now a.at 4 4 c.requires)
