@@ -10,7 +10,7 @@ use box_items::{Next, run_next};
 use box_lines::{Line, Printed, body_len, put_heading, put_line};
 use cell_nursery::Nursery;
 use counters::Counters;
-use libc::{STDERR_FILENO, STDIN_FILENO, STDOUT_FILENO};
+use std::io::Read;
 
 // How many of the bytes that were asked for came, and whether a read failed.
 #[derive(Clone, Copy)]
@@ -20,27 +20,25 @@ struct Got {
 }
 
 // Reads until the buffer is full or the input ends. A read that fails is no end, and is told on standard error.
-fn read_all(buf: &mut [u8]) -> Got
+fn read_all(rt: &impl Eprint, input: &mut impl Read, buf: &mut [u8]) -> Got
     ensures { result.len ≤ length buf.new }
 {
     let mut len = 0;
     while len < buf.len() {
-        let got = libc::read(STDIN_FILENO, &mut buf[len..]);
-        if got < 0 {
-            os::fail(b"boxrun: standard input");
-            return Got { len, failed: true };
+        match input.read(&mut buf[len..]) {
+            Ok(0) => return Got { len, failed: false },
+            Ok(n) => len += n,
+            Err(e) => {
+                let _ = eprintln!(rt; "boxrun: standard input: {e}");
+                return Got { len, failed: true };
+            }
         }
-        let n = io::count(got, &buf[len..]);
-        if n == 0 {
-            break;
-        }
-        len += n;
     }
     Got { len, failed: false }
 }
 
 // Reads an item: its six bytes, then its body, but none that is longer than there is room for.
-fn read_item(bytes: &mut [u8]) -> Got
+fn read_item(rt: &impl Eprint, input: &mut impl Read, bytes: &mut [u8]) -> Got
     ensures { result.len ≤ length bytes.new }
 {
     if bytes.len() < 6 {
@@ -49,7 +47,7 @@ fn read_item(bytes: &mut [u8]) -> Got
             failed: false,
         };
     }
-    let head = read_all(&mut bytes[..6]);
+    let head = read_all(rt, input, &mut bytes[..6]);
     if head.len < 6 {
         return head;
     }
@@ -60,7 +58,7 @@ fn read_item(bytes: &mut [u8]) -> Got
             failed: false,
         };
     }
-    let rest = read_all(&mut bytes[6..6 + body]);
+    let rest = read_all(rt, input, &mut bytes[6..6 + body]);
     Got {
         len: 6 + rest.len,
         failed: rest.failed,
@@ -68,33 +66,35 @@ fn read_item(bytes: &mut [u8]) -> Got
 }
 
 // Writes the text at the start of a buffer. A write that fails is told on standard error.
-fn print(text: &[u8], p: Printed) -> bool {
+fn print(rt: &(impl Print + Eprint), text: &[u8], p: Printed) -> bool {
     let n = p.len;
     if text.len() < n {
         return false;
     }
-    let written = io::write_all(STDOUT_FILENO, &text[..n]);
-    if !written {
-        os::fail(b"boxrun: standard output");
+    match rt.write_all(&text[..n]) {
+        Ok(()) => true,
+        Err(e) => {
+            let _ = eprintln!(rt; "boxrun: standard output: {e}");
+            false
+        }
     }
-    written
 }
 
-fn print_heading() -> bool {
+fn print_heading(rt: &(impl Print + Eprint)) -> bool {
     let mut text = [0u8; 28];
     let p = put_heading(&mut text);
-    print(&text, p)
+    print(rt, &text, p)
 }
 
 // No line is longer: box_lines LineLaws.line-length.
-fn print_line(l: Line) -> bool {
+fn print_line(rt: &(impl Print + Eprint), l: Line) -> bool {
     let mut text = [0u8; 105];
     let none = Printed {
         len: 0,
         whole: true,
     };
     let p = put_line(&mut text, none, l);
-    print(&text, p)
+    print(rt, &text, p)
 }
 
 // The end of the run.
@@ -115,6 +115,7 @@ fn stop(counters: Counters, nursery: Nursery) -> Next {
 
 // Runs the item that was read, and prints its line. There is none where the input ended before it.
 fn run_read(
+    rt: &(impl Print + Eprint),
     counters: Counters,
     nursery: Nursery,
     t: &mut [u64; 2048],
@@ -129,7 +130,7 @@ fn run_read(
     }
     let n = run_next(counters, nursery, t, es, ws, cs, place, bytes);
     let line = n.line;
-    if !print_line(line) {
+    if !print_line(rt, line) {
         return stop(counters, nursery);
     }
     n
@@ -137,6 +138,8 @@ fn run_read(
 
 // One item, of which there is room for the longest body.
 fn turn(
+    rt: &(impl Print + Eprint),
+    input: &mut impl Read,
     counters: Counters,
     nursery: Nursery,
     t: &mut [u64; 2048],
@@ -146,16 +149,16 @@ fn turn(
     place: u64,
 ) -> Next {
     let mut bytes = [0u8; 32774];
-    let got = read_item(&mut bytes);
+    let got = read_item(rt, input, &mut bytes);
     if got.failed {
         return stop(counters, nursery);
     }
     let n = got.len;
-    run_read(counters, nursery, t, es, ws, cs, place, &bytes[..n])
+    run_read(rt, counters, nursery, t, es, ws, cs, place, &bytes[..n])
 }
 
 // Room for 1,024 counts, 256 entries and 16,384 cell bytes.
-fn main() {
+fn main(rt: HostRuntime) {
     let mut t = [0u64; 2048];
     let mut es = [0u64; 2048];
     let mut ws = [0u64; 1280];
@@ -163,12 +166,14 @@ fn main() {
     let fresh = box_run::fresh(&mut t, &mut es, &mut ws, &mut cs);
     let mut counters = fresh.counters;
     let mut nursery = fresh.nursery;
-    if !print_heading() {
+    if !print_heading(&rt) {
         return;
     }
-    let mut place: u64 = 0;
-    while place < 0xFFFF_FFFF_FFFF_FFFF {
-        let n = turn(counters, nursery, &mut t, &mut es, &mut ws, &mut cs, place);
+    let mut input = rt.stdin();
+    for place in 0..u64::MAX {
+        let n = turn(
+            &rt, &mut input, counters, nursery, &mut t, &mut es, &mut ws, &mut cs, place,
+        );
         if !n.good {
             return;
         }
@@ -176,7 +181,6 @@ fn main() {
         counters = c;
         let y = n.nursery;
         nursery = y;
-        place += 1;
     }
-    io::write_all(STDERR_FILENO, b"boxrun: too many items\n");
+    let _ = eprintln!(rt; "boxrun: too many items");
 }

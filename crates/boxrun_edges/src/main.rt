@@ -3,67 +3,77 @@
 #![tactic(auto)]
 
 use box_lines::Printed;
-use libc::STDOUT_FILENO;
+use call_lists::files::read_full;
+use std::fs;
+use std::rt::Files;
 
-fn print(out: &[u8], p: Printed) {
+// A write that fails changes nothing here.
+fn print(rt: &impl Print, out: &[u8], p: Printed) {
     let n = p.len;
     if n <= out.len() {
-        io::write_all(STDOUT_FILENO, &out[..n]);
+        let _ = rt.write_all(&out[..n]);
     }
     if !p.whole {
-        io::write_all(STDOUT_FILENO, b"|\n");
+        let _ = rt.write_all(b"|\n");
     }
 }
 
-fn run(name: &[u8], path: &[u8], out: &mut [u8]) {
-    io::write_all(STDOUT_FILENO, name);
-    io::write_all(STDOUT_FILENO, b"\n");
-    let fd = os::open_read(path);
-    if fd < 0 {
-        os::fail(path);
-        return;
-    }
+fn run(rt: &(impl Files + Print + Eprint), name: &str, path: &str, out: &mut [u8]) {
+    let _ = rt.println(name);
+    let mut file = match fs::open(rt, path) {
+        Ok(file) => file,
+        Err(e) => {
+            let _ = eprintln!(rt; "{path}: {e}");
+            return;
+        }
+    };
     let mut input = [0u8; 65600];
-    let n = io::read_full(fd, &mut input);
-    libc::close(fd);
+    let n = read_full(&mut file, &mut input);
     let p = box_run::run(&input[..n], out);
-    print(out, p);
+    print(rt, out, p);
 }
 
-fn edge(name: &[u8], path: &[u8]) {
+fn edge(rt: &(impl Files + Print + Eprint), name: &str, path: &str) {
     let mut out = [0u8; 512];
-    run(name, path, &mut out);
+    run(rt, name, path, &mut out);
 }
 
-fn main() {
-    edge(b"no input", b"empty");
-    edge(b"a header of five bytes", b"header_cut");
-    edge(b"a body of 23 bytes that should have 24", b"body_cut");
-    edge(b"a batch of 32760 bytes, a body of 32768 bytes", b"longest");
-    edge(b"a body of 32769 bytes", b"too_long");
-    edge(b"kind 5", b"kind_five");
-    edge(b"kind 0", b"kind_zero");
-    edge(b"kind 257", b"kind_high");
-    edge(b"an allocation with a body", b"allocate_body");
-    edge(b"a ragged batch", b"ragged");
-    edge(b"a payload of 15 bytes", b"short_payload");
-    edge(b"a payload whose insert runs past it", b"misfit");
-    edge(b"a payload with a byte after its last item", b"leftover");
-    edge(b"a round of two bytes", b"short_round");
-    edge(b"deltas, and drains at 99 and 100", b"drains");
+fn main(rt: HostRuntime) {
+    edge(&rt, "no input", "empty");
+    edge(&rt, "a header of five bytes", "header_cut");
+    edge(&rt, "a body of 23 bytes that should have 24", "body_cut");
     edge(
-        b"257 entries, 256 entries, one more byte of cells than fits",
-        b"full",
+        &rt,
+        "a batch of 32760 bytes, a body of 32768 bytes",
+        "longest",
+    );
+    edge(&rt, "a body of 32769 bytes", "too_long");
+    edge(&rt, "kind 5", "kind_five");
+    edge(&rt, "kind 0", "kind_zero");
+    edge(&rt, "kind 257", "kind_high");
+    edge(&rt, "an allocation with a body", "allocate_body");
+    edge(&rt, "a ragged batch", "ragged");
+    edge(&rt, "a payload of 15 bytes", "short_payload");
+    edge(&rt, "a payload whose insert runs past it", "misfit");
+    edge(&rt, "a payload with a byte after its last item", "leftover");
+    edge(&rt, "a round of two bytes", "short_round");
+    edge(&rt, "deltas, and drains at 99 and 100", "drains");
+    edge(
+        &rt,
+        "257 entries, 256 entries, one more byte of cells than fits",
+        "full",
     );
     edge(
-        b"a count at an index that was never born, and with its birth",
-        b"few_cells",
+        &rt,
+        "a count at an index that was never born, and with its birth",
+        "few_cells",
     );
-    edge(b"document 01's run", b"document_01");
+    edge(&rt, "document 01's run", "document_01");
     let mut short = [0u8; 40];
     run(
-        b"the same into an output of 40 bytes",
-        b"document_01",
+        &rt,
+        "the same into an output of 40 bytes",
+        "document_01",
         &mut short,
     );
 }

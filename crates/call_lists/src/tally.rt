@@ -2,14 +2,13 @@
 ghost use Rattle.std.specs.Prelude.{◌≡◌, ◌==◌};
 ghost use Rattle.call_lists.specs.Tallies.{one_more};
 
-use libc::STDOUT_FILENO;
-
-fn say(text: &[u8]) {
-    io::write_all(STDOUT_FILENO, text);
+// A write that fails changes nothing here.
+fn say(rt: &impl Print, text: &[u8]) {
+    let _ = rt.write_all(text);
 }
 
-fn say_number(n: u64) {
-    io::print_decimal(STDOUT_FILENO, n);
+fn say_number(rt: &impl Print, n: u64) {
+    let _ = rt.print(n);
 }
 
 // How many steps there were, and how many of them agree.
@@ -20,7 +19,7 @@ pub struct Tally {
 }
 
 // One step more. One that doesn't agree is named.
-pub fn counted(t: Tally, good: bool, name: &[u8]) -> Tally
+pub fn counted(rt: &impl Print, t: Tally, good: bool, name: &[u8]) -> Tally
     ensures { result ≡ one_more good t }
 {
     let steps = std::num::wrapping_add_u64(t.steps, 1);
@@ -30,11 +29,11 @@ pub fn counted(t: Tally, good: bool, name: &[u8]) -> Tally
             good: std::num::wrapping_add_u64(t.good, 1),
         };
     }
-    say(b"DIFFERS: ");
-    say(name);
-    say(b" step ");
-    say_number(steps);
-    say(b"\n");
+    say(rt, b"DIFFERS: ");
+    say(rt, name);
+    say(rt, b" step ");
+    say_number(rt, steps);
+    say(rt, b"\n");
     Tally {
         steps,
         good: t.good,
@@ -42,14 +41,14 @@ pub fn counted(t: Tally, good: bool, name: &[u8]) -> Tally
 }
 
 // How many agree, in a line; whether all do.
-pub fn report(name: &[u8], t: Tally) -> bool
+pub fn report(rt: &impl Print, name: &[u8], t: Tally) -> bool
     ensures { result ≡ (t.good == t.steps) }
 {
-    say(name);
-    say(b": ");
-    say_number(t.good);
-    say(b" of ");
-    say_number(t.steps);
-    say(b" answers agree\n");
+    say(rt, name);
+    say(rt, b": ");
+    say_number(rt, t.good);
+    say(rt, b" of ");
+    say_number(rt, t.steps);
+    say(rt, b" answers agree\n");
     t.good == t.steps
 }

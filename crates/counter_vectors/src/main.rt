@@ -24,6 +24,7 @@ use call_lists::files::read_file;
 use call_lists::lines::{decode, spelled, spells, step_at};
 use call_lists::tally::{Tally, counted, report};
 use calls::counts_room;
+use std::rt::Files;
 
 // The answer to a call, which a text spells; its length.
 fn answer(
@@ -56,7 +57,7 @@ fn agrees(
 }
 
 // The steps of a list, one after the other on one record and table.
-fn replay(name: &[u8], s: &[u8]) {
+fn replay(rt: &impl Print, name: &[u8], s: &[u8]) {
     let mut settings = [131072u64, 2097152, 1048576];
     let mut state = [0u64; 16];
     let mut counts = counts_room();
@@ -75,24 +76,24 @@ fn replay(name: &[u8], s: &[u8]) {
                 &mut state,
                 &mut counts,
             );
-            t = counted(t, good, name);
+            t = counted(rt, t, good, name);
         }
         at = p.next;
     }
-    report(name, t);
+    report(rt, name, t);
 }
 
-fn list(name: &[u8]) {
+fn list(rt: &(impl Files + Print), name: &[u8]) {
     let mut text = text_room();
-    let n = read_file(name, &mut text);
-    replay(name, &text[0..n]);
+    let n = read_file(rt, name, &mut text);
+    replay(rt, name, &text[0..n]);
 }
 
-fn main() {
-    list(b"original");
-    list(b"worked");
-    list(b"snapshots");
-    list(b"edges");
-    list(b"cells");
-    list(b"settings");
+fn main(rt: HostRuntime) {
+    list(&rt, b"original");
+    list(&rt, b"worked");
+    list(&rt, b"snapshots");
+    list(&rt, b"edges");
+    list(&rt, b"cells");
+    list(&rt, b"settings");
 }

@@ -24,6 +24,7 @@ use call_lists::answers::{NONE, room, text_room};
 use call_lists::files::read_file;
 use call_lists::lines::{decode, spelled, spells, step_at};
 use call_lists::tally::{Tally, counted, report};
+use std::rt::Files;
 
 // The answer to a call, which a text spells; its length.
 fn answer(
@@ -69,7 +70,7 @@ fn agrees(
 }
 
 // The steps of a list, one after the other on one nursery: at first an empty one with room for 32 entries and 2,048 cell bytes, and a delay of 100.
-fn replay(name: &[u8], s: &[u8]) {
+fn replay(rt: &impl Print, name: &[u8], s: &[u8]) {
     let mut delay = [100u64; 1];
     let mut nursery = [0u64, 0, 0, 100];
     let mut entries = [0u64; 256];
@@ -92,23 +93,23 @@ fn replay(name: &[u8], s: &[u8]) {
                 &mut waiting,
                 &mut cells,
             );
-            t = counted(t, good, name);
+            t = counted(rt, t, good, name);
         }
         at = p.next;
     }
-    report(name, t);
+    report(rt, name, t);
 }
 
-fn list(name: &[u8]) {
+fn list(rt: &(impl Files + Print), name: &[u8]) {
     let mut text = text_room();
-    let n = read_file(name, &mut text);
-    replay(name, &text[0..n]);
+    let n = read_file(rt, name, &mut text);
+    replay(rt, name, &text[0..n]);
 }
 
-fn main() {
-    list(b"original");
-    list(b"edges");
-    list(b"journals");
-    list(b"settings");
-    list(b"keyed_journals");
+fn main(rt: HostRuntime) {
+    list(&rt, b"original");
+    list(&rt, b"edges");
+    list(&rt, b"journals");
+    list(&rt, b"settings");
+    list(&rt, b"keyed_journals");
 }

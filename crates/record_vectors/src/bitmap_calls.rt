@@ -3,6 +3,7 @@ use call_lists::answers::{NONE, put, put_words, text_room, word};
 use call_lists::files::read_file;
 use roaring_check::is_bitmap64;
 use roaring_cursor::{Step, next, start};
+use std::rt::Files;
 
 // More members than any bitmap of the list has.
 const MANY: u64 = 10000000;
@@ -90,22 +91,22 @@ fn change(buf: &mut [u8], at: u64, value: u8) {
 }
 
 // The call has a place, two bytes that stand there then, and the name of a file. No byte is changed at a place behind the last one.
-fn file(call: &[u8], out: &mut [u8]) -> usize {
+fn file(rt: &impl Files, call: &[u8], out: &mut [u8]) -> usize {
     if call.len() < 10 {
         return NONE;
     }
     let mut buf = text_room();
-    let n = read_file(&call[10..], &mut buf);
+    let n = read_file(rt, &call[10..], &mut buf);
     let at = word(call, 0);
     change(&mut buf, at, call[8]);
     change(&mut buf, std::num::wrapping_add_u64(at, 1), call[9]);
     members(&buf[0..n], out)
 }
 
-pub(crate) fn answer(kind: u8, call: &[u8], out: &mut [u8]) -> usize {
+pub(crate) fn answer(rt: &impl Files, kind: u8, call: &[u8], out: &mut [u8]) -> usize {
     match kind {
         48 => members(call, out),
-        49 => file(call, out),
+        49 => file(rt, call, out),
         _ => NONE,
     }
 }

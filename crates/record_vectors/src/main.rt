@@ -24,9 +24,10 @@ use call_lists::answers::{NONE, room, text_room};
 use call_lists::files::read_file;
 use call_lists::lines::{decode, spelled, spells, step_at};
 use call_lists::tally::{Tally, counted, report};
+use std::rt::Files;
 
 // The answer to a call, which a text spells; its length.
-fn answer(text: &[u8], out: &mut [u8]) -> usize {
+fn answer(rt: &impl Files, text: &[u8], out: &mut [u8]) -> usize {
     let mut call = room();
     let n = decode(text, &mut call);
     if n < 1 {
@@ -36,21 +37,21 @@ fn answer(text: &[u8], out: &mut [u8]) -> usize {
     let body = &call[1..n];
     match kind / 16 {
         2 => calls::answer(kind, body, out),
-        3 => bitmap_calls::answer(kind, body, out),
+        3 => bitmap_calls::answer(rt, kind, body, out),
         _ => NONE,
     }
 }
 
 // Whether a call is answered as wanted. No answer has no bytes.
-fn agrees(call: &[u8], wanted: &[u8]) -> bool {
+fn agrees(rt: &impl Files, call: &[u8], wanted: &[u8]) -> bool {
     let mut room = room();
     let n = spelled(wanted);
     let out = &mut room[0..n];
-    answer(call, out) == n && spells(wanted, out)
+    answer(rt, call, out) == n && spells(wanted, out)
 }
 
 // The steps of a list, one after the other.
-fn replay(name: &[u8], s: &[u8]) {
+fn replay(rt: &(impl Files + Print), name: &[u8], s: &[u8]) {
     let mut t = Tally { steps: 0, good: 0 };
     let mut at = 0;
     while at < s.len() {
@@ -59,29 +60,29 @@ fn replay(name: &[u8], s: &[u8]) {
         let wanted = p.wanted;
         let last = p.last;
         if at < end {
-            let good = agrees(&s[at..end], &s[wanted..last]);
-            t = counted(t, good, name);
+            let good = agrees(rt, &s[at..end], &s[wanted..last]);
+            t = counted(rt, t, good, name);
         }
         at = p.next;
     }
-    report(name, t);
+    report(rt, name, t);
 }
 
-fn list(name: &[u8]) {
+fn list(rt: &(impl Files + Print), name: &[u8]) {
     let mut text = text_room();
-    let n = read_file(name, &mut text);
-    replay(name, &text[0..n]);
+    let n = read_file(rt, name, &mut text);
+    replay(rt, name, &text[0..n]);
 }
 
-fn main() {
-    list(b"original");
-    list(b"records");
-    list(b"long_record");
-    list(b"hashes");
-    list(b"keyed_hashes");
-    list(b"keyed_records");
-    list(b"keyed_long");
-    list(b"bitmaps");
-    list(b"edges");
-    list(b"converted");
+fn main(rt: HostRuntime) {
+    list(&rt, b"original");
+    list(&rt, b"records");
+    list(&rt, b"long_record");
+    list(&rt, b"hashes");
+    list(&rt, b"keyed_hashes");
+    list(&rt, b"keyed_records");
+    list(&rt, b"keyed_long");
+    list(&rt, b"bitmaps");
+    list(&rt, b"edges");
+    list(&rt, b"converted");
 }
