@@ -1,5 +1,5 @@
 // The two calls that take a loan of records, on lines of document 01: a batch as a slice of records, with the length of the snapshot after it, and the
-// threshold through a `&mut CounterMaintenance`, by the standard settings and by others. What makes such a loan is proved by hand, so only `lent` and `recorded` do.
+// threshold through a `&mut CounterMaintenance`, by the standard settings and by others. `lent` and `recorded` make these loans.
 #![tactic(auto)]
 
 ghost use Rattle.std.specs.Prelude.{◌≡◌, [], ◌∷◌};
