@@ -1,6 +1,6 @@
 -- How many steps of a list agree.
 -- Assumes nothing.
-use Rattle.std.specs.Prelude.{ℕ, ◌+◌, ◌%◌, ◌^◌, Bool}
+use Rattle.std.specs.Prelude.{◌+◌, ◌%◌, ◌^◌, Bool}
 use Rattle.base.specs.Logic.{pick}
 use Rattle.call_lists.specs.declared.tally.Tally.{Tally}
 
