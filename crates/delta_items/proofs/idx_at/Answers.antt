@@ -1,0 +1,9 @@
+-- `delta_items::idx_at`. The place is in the part that the insert starts.
+-- Assumes nothing.
+use lib.Seq.{drop-drop}
+use Rattle.delta_items.proofs.idx_at.Goals as goal
+
+pub returns : goal.returns
+returns c =
+    let a = c.args in
+    rw (drop-drop 32 a.at a.items.now) c.read_le64.ensures

@@ -1,0 +1,18 @@
+use Rattle.snapshot_worst.specs.NumberLaws.{no_digit, four-digits}
+use Rattle.snapshot_worst.proofs.read_number.Goals as goal
+
+-- src/lib.rt:80:9
+pub returns-then-len-eq0 : goal.returns-then-len-eq0
+returns-then-len-eq0 c = no_digit c.args.s.now c.unended_len-len.result c.unended_len-len.ensures c.if-len-eq0.true
+
+-- src/lib.rt:83:9
+pub returns-then-len-gt3 : goal.returns-then-len-gt3
+returns-then-len-gt3 c = four-digits c.args.s.now c.unended_len-len.result c.unended_len-len.ensures c.if-len-gt3.true
+
+-- src/lib.rt:85:20
+pub slice_bounds-spelled_number-end : goal.slice_bounds-spelled_number-end
+slice_bounds-spelled_number-end c = ?
+
+-- src/lib.rt:75:1
+pub returns : goal.returns
+returns c = ?
