@@ -252,52 +252,52 @@ module _ (hash : List ℕ → List ℕ) (delay : ℕ) (bs es ws cs : List ℕ) w
   -- a reading that is taken is that of its records, none of which is damaged, by a delay in range
   pub read_taken : read_answer ≡ Taken
       → (damaged hash bs ≡ false) × (read_call hash delay bs es ws cs ≡ read_out delay es ws cs (read_journal hash (room_of es ws cs) bs)) × (delay_in_range delay ≡ true)
-  read_taken t = go read_answer judged t
+  read_taken t = go judged t
     where
-      go : (a : Answer) → Judged a → a ≡ Taken
+      go : {a : Answer} → Judged a → a ≡ Taken
           → (damaged hash bs ≡ false) × (read_call hash delay bs es ws cs ≡ read_out delay es ws cs (read_journal hash (room_of es ws cs) bs)) × (delay_in_range delay ≡ true)
-      go (Refused BadSetting) (bad o) e = absurd (not-refused (sym e))
-      go (Refused Damaged) (damage o d) e = absurd (not-refused (sym e))
-      go Taken (read o d) e = (d, read-undamaged o d, o)
+      go (bad o) e = absurd (not-refused (sym e))
+      go (damage o d) e = absurd (not-refused (sym e))
+      go (read o d) e = (d, read-undamaged o d, o)
 
   -- 23, bad setting: a delay of no round, or of more than 10,000
   pub read-setting : (read_answer ≡ Refused BadSetting) ↔ ((delay ≡ 0) ⊎ (10000 < delay))
   unfolding not_read
-  read-setting = exactly (go read_answer judged, λ o. ap (λ (c : ReadIn). c.result.answer) (read-bad o)) (delay-range delay)
+  read-setting = exactly (go judged, λ o. ap (λ (c : ReadIn). c.result.answer) (read-bad o)) (delay-range delay)
     where
-      go : (a : Answer) → Judged a → a ≡ Refused BadSetting → delay_in_range delay ≡ false
-      go (Refused BadSetting) (bad o) e = o
-      go (Refused Damaged) (damage o d) e = let z : ◌≡◌ {A = ℕ} 21 23 = ap answer_number e in absurd (omega arith)
-      go Taken (read o d) e = absurd (not-refused e)
+      go : {a : Answer} → Judged a → a ≡ Refused BadSetting → delay_in_range delay ≡ false
+      go (bad o) e = o
+      go (damage o d) e = let z : ◌≡◌ {A = ℕ} 21 23 = ap answer_number e in absurd (omega arith)
+      go (read o d) e = absurd (not-refused e)
 
   -- 21, damaged: another delay, and a damaged journal
   pub read-damage : (read_answer ≡ Refused Damaged) ↔ ((delay_in_range delay ≡ true) × (damaged hash bs ≡ true))
   unfolding not_read
-  read-damage = (go read_answer judged, λ (o, d). ap (λ (c : ReadIn). c.result.answer) (read-damaged o d))
+  read-damage = (go judged, λ (o, d). ap (λ (c : ReadIn). c.result.answer) (read-damaged o d))
     where
-      go : (a : Answer) → Judged a → a ≡ Refused Damaged → (delay_in_range delay ≡ true) × (damaged hash bs ≡ true)
-      go (Refused BadSetting) (bad o) e = let z : ◌≡◌ {A = ℕ} 23 21 = ap answer_number e in absurd (omega arith)
-      go (Refused Damaged) (damage o d) e = (o, d)
-      go Taken (read o d) e = absurd (not-refused e)
+      go : {a : Answer} → Judged a → a ≡ Refused Damaged → (delay_in_range delay ≡ true) × (damaged hash bs ≡ true)
+      go (bad o) e = let z : ◌≡◌ {A = ℕ} 23 21 = ap answer_number e in absurd (omega arith)
+      go (damage o d) e = (o, d)
+      go (read o d) e = absurd (not-refused e)
 
   -- 23 or 21, and no other
   pub read-numbers : Answers (23 ∷ 21 ∷ []) read_answer
   unfolding any
-  read-numbers = go read_answer judged
+  read-numbers = go judged
     where
-      go : (a : Answer) → Judged a → Answers (23 ∷ 21 ∷ []) a
-      go (Refused BadSetting) (bad o) q e = let same : q ≡ BadSetting = cc in rw same
-      go (Refused Damaged) (damage o d) q e = let same : q ≡ Damaged = cc in rw same
-      go Taken (read o d) q e = absurd (not-refused e)
+      go : {a : Answer} → Judged a → Answers (23 ∷ 21 ∷ []) a
+      go (bad o) q e = let same : q ≡ BadSetting = cc in rw same
+      go (damage o d) q e = let same : q ≡ Damaged = cc in rw same
+      go (read o d) q e = absurd (not-refused e)
 
   -- beside a refusal all is zeros, and the tables are as they were
   pub read-refused : (q : Refusal) → read_answer ≡ Refused q → read_call hash delay bs es ws cs ≡ not_read q es ws cs
-  read-refused q = go read_answer judged
+  read-refused q = go judged
     where
-      go : (a : Answer) → Judged a → a ≡ Refused q → read_call hash delay bs es ws cs ≡ not_read q es ws cs
-      go (Refused BadSetting) (bad o) e = let same : BadSetting ≡ q = cc in rw (← same) (read-bad o)
-      go (Refused Damaged) (damage o d) e = let same : Damaged ≡ q = cc in rw (← same) (read-damaged o d)
-      go Taken (read o d) e = absurd (not-refused e)
+      go : {a : Answer} → Judged a → a ≡ Refused q → read_call hash delay bs es ws cs ≡ not_read q es ws cs
+      go (bad o) e = let same : BadSetting ≡ q = cc in rw (← same) (read-bad o)
+      go (damage o d) e = let same : Damaged ≡ q = cc in rw (← same) (read-damaged o d)
+      go (read o d) e = absurd (not-refused e)
 
   -- the nursery of a reading that is taken has the delay that was given
   pub read-delay : read_answer ≡ Taken → (read_call hash delay bs es ws cs).result.nursery.delay ≡ delay
