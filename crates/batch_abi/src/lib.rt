@@ -1,4 +1,4 @@
-// A batch of transitions as C functions, lent as in counters_abi; include/selvaigo.h declares them.
+// A batch of transitions over words, lent as in counters_abi, for `selvaigo` to export.
 #![tactic(auto)]
 
 ghost use Rattle.std.specs.Prelude.{◌≡◌, true, [], ◌∷◌};
@@ -10,12 +10,7 @@ use state_steps::put_applied;
 use state_words::counters_of;
 
 // A batch of transitions.
-#[unsafe(no_mangle)]
-pub extern "C" fn selvaigo_apply_batch(
-    state: &mut [u64; 16],
-    counts: &mut [u64],
-    batch: &[u64],
-) -> u8
+pub fn selvaigo_apply_batch(state: &mut [u64; 16], counts: &mut [u64], batch: &[u64]) -> u8
     ensures { said result [] (state.new ∷ counts.new ∷ []) ≡ batch_said state.old counts.old batch.now }
 {
     let c = counters_of(state);
@@ -24,12 +19,7 @@ pub extern "C" fn selvaigo_apply_batch(
 }
 
 // The same, where the record and the table hold a state.
-#[unsafe(no_mangle)]
-pub extern "C" fn selvaigo_apply_batch_held(
-    state: &mut [u64; 16],
-    counts: &mut [u64],
-    batch: &[u64],
-) -> u8
+pub fn selvaigo_apply_batch_held(state: &mut [u64; 16], counts: &mut [u64], batch: &[u64]) -> u8
     requires { layout.holds (counters_of state.old) counts.old ≡ true }
     ensures { said result [] (state.new ∷ counts.new ∷ []) ≡ batch_said state.old counts.old batch.now }
 {

@@ -1,5 +1,5 @@
-// The counters' calls as C functions: a new state, an index handed out, a count. include/selvaigo.h declares them. A slice passes as a
-// pointer and a length, an array as a pointer. A state record is lent as its words of docs/LAYOUT.md.
+// The counters' calls over words: a new state, an index handed out, a count. `selvaigo` exports them to C, as include/selvaigo.h declares them. A state
+// record is lent as its words of docs/LAYOUT.md.
 #![tactic(auto)]
 
 ghost use Rattle.std.specs.Prelude.{◌≡◌, true, [], ◌∷◌};
@@ -12,8 +12,7 @@ use state_steps::{put_counters, put_got};
 use state_words::{counters_of, counters_words};
 
 // Counters with nothing stored, whose next index is handed over, in a record and a table of any content. A refusal changes neither.
-#[unsafe(no_mangle)]
-pub extern "C" fn selvaigo_new(
+pub fn selvaigo_new(
     next_idx: u64,
     shrink_base: u64,
     shrink_max: u64,
@@ -35,8 +34,7 @@ pub extern "C" fn selvaigo_new(
 }
 
 // The next index, handed out.
-#[unsafe(no_mangle)]
-pub extern "C" fn selvaigo_alloc_idx(state: &mut [u64; 16], idx: &mut [u64; 1]) -> u8
+pub fn selvaigo_alloc_idx(state: &mut [u64; 16], idx: &mut [u64; 1]) -> u8
     ensures { said result (idx.new ∷ []) (state.new ∷ []) ≡ alloc_said state.old }
 {
     let c = counters_of(state);
@@ -49,13 +47,7 @@ pub extern "C" fn selvaigo_alloc_idx(state: &mut [u64; 16], idx: &mut [u64; 1]) 
 }
 
 // The count at an index.
-#[unsafe(no_mangle)]
-pub extern "C" fn selvaigo_get(
-    state: &[u64; 16],
-    counts: &[u64],
-    idx: u64,
-    count: &mut [u64; 1],
-) -> u8
+pub fn selvaigo_get(state: &[u64; 16], counts: &[u64], idx: u64, count: &mut [u64; 1]) -> u8
     ensures { said result (count.new ∷ []) [] ≡ get_said state.now counts.now idx }
 {
     let c = counters_of(state);
@@ -64,13 +56,7 @@ pub extern "C" fn selvaigo_get(
 }
 
 // The same, where the record and the table hold a state.
-#[unsafe(no_mangle)]
-pub extern "C" fn selvaigo_get_held(
-    state: &[u64; 16],
-    counts: &[u64],
-    idx: u64,
-    count: &mut [u64; 1],
-) -> u8
+pub fn selvaigo_get_held(state: &[u64; 16], counts: &[u64], idx: u64, count: &mut [u64; 1]) -> u8
     requires { layout.holds (counters_of state.now) counts.now ≡ true }
     ensures { said result (count.new ∷ []) [] ≡ get_said state.now counts.now idx }
 {

@@ -1,4 +1,4 @@
-// Draining as C functions, lent as in nursery_abi; include/selvaigo.h declares them.
+// Draining over words, lent as in nursery_abi, for `selvaigo` to export.
 #![tactic(auto)]
 
 ghost use Rattle.std.specs.Prelude.{◌≡◌, true, [], ◌∷◌};
@@ -10,8 +10,7 @@ use state_steps::put_drained;
 use state_words::nursery_of;
 
 // What is due for promotion at a round, written into the output.
-#[unsafe(no_mangle)]
-pub extern "C" fn selvaigo_drain_promotable(
+pub fn selvaigo_drain_promotable(
     nursery: &mut [u64; 4],
     entries: &[u64],
     waiting: &mut [u64],
@@ -28,8 +27,7 @@ pub extern "C" fn selvaigo_drain_promotable(
 }
 
 // The same, where the record and the tables hold a state.
-#[unsafe(no_mangle)]
-pub extern "C" fn selvaigo_drain_promotable_held(
+pub fn selvaigo_drain_promotable_held(
     nursery: &mut [u64; 4],
     entries: &[u64],
     waiting: &mut [u64],

@@ -1,4 +1,4 @@
-// The nursery's calls that read it as C functions, lent as in nursery_abi; include/selvaigo.h declares them.
+// The nursery's calls that read it, over words, lent as in nursery_abi, for `selvaigo` to export.
 #![tactic(auto)]
 
 ghost use Rattle.std.specs.Prelude.{◌≡◌, true, [], ◌∷◌};
@@ -10,8 +10,7 @@ use state_steps::{put_data, put_found};
 use state_words::nursery_of;
 
 // The index of a hash.
-#[unsafe(no_mangle)]
-pub extern "C" fn selvaigo_get_idx(
+pub fn selvaigo_get_idx(
     nursery: &[u64; 4],
     entries: &[u64],
     hash: &[u8; 32],
@@ -24,8 +23,7 @@ pub extern "C" fn selvaigo_get_idx(
 }
 
 // The same, where the record and the entries hold a state.
-#[unsafe(no_mangle)]
-pub extern "C" fn selvaigo_get_idx_held(
+pub fn selvaigo_get_idx_held(
     nursery: &[u64; 4],
     entries: &[u64],
     hash: &[u8; 32],
@@ -39,8 +37,7 @@ pub extern "C" fn selvaigo_get_idx_held(
 }
 
 // Where the cell of a hash lies.
-#[unsafe(no_mangle)]
-pub extern "C" fn selvaigo_get_data(
+pub fn selvaigo_get_data(
     nursery: &[u64; 4],
     entries: &[u64],
     cells: &[u8],
@@ -54,8 +51,7 @@ pub extern "C" fn selvaigo_get_data(
 }
 
 // The same, where the record, the entries and the cells hold a state.
-#[unsafe(no_mangle)]
-pub extern "C" fn selvaigo_get_data_held(
+pub fn selvaigo_get_data_held(
     nursery: &[u64; 4],
     entries: &[u64],
     cells: &[u8],

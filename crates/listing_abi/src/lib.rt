@@ -1,4 +1,4 @@
-// The listing as C functions, lent as in nursery_abi; include/selvaigo.h declares them.
+// The listing over words, lent as in nursery_abi, for `selvaigo` to export.
 #![tactic(auto)]
 
 ghost use Rattle.std.specs.Prelude.{◌≡◌, true, [], ◌∷◌};
@@ -10,8 +10,7 @@ use state_steps::put_wrote;
 use state_words::nursery_of;
 
 // The listing, written into the output.
-#[unsafe(no_mangle)]
-pub extern "C" fn selvaigo_snapshot_entries(
+pub fn selvaigo_snapshot_entries(
     nursery: &[u64; 4],
     entries: &[u64],
     cells: &[u8],
@@ -25,8 +24,7 @@ pub extern "C" fn selvaigo_snapshot_entries(
 }
 
 // The same, where the record, the entries and the cells hold a state.
-#[unsafe(no_mangle)]
-pub extern "C" fn selvaigo_snapshot_entries_held(
+pub fn selvaigo_snapshot_entries_held(
     nursery: &[u64; 4],
     entries: &[u64],
     cells: &[u8],

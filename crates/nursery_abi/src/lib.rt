@@ -1,6 +1,5 @@
-// The nursery's calls that change it as C functions; include/selvaigo.h declares them. A slice passes as a pointer and a length, an array as a
-// pointer. A state record is lent as its words of docs/LAYOUT.md. A form named .._held requires of the record and the tables what the form
-// beside it tests.
+// The nursery's calls that change it, over words, for `selvaigo` to export. A state record is lent as its words of docs/LAYOUT.md. A form named
+// .._held requires of the record and the tables what the form beside it tests.
 #![tactic(auto)]
 
 ghost use Rattle.std.specs.Prelude.{◌≡◌, true, [], ◌∷◌};
@@ -13,8 +12,7 @@ use state_steps::{put_committed, put_nursery};
 use state_words::nursery_of;
 
 // An empty nursery with a delay, in a record and tables of any content. A refusal changes none of them.
-#[unsafe(no_mangle)]
-pub extern "C" fn selvaigo_nursery_new(
+pub fn selvaigo_nursery_new(
     delay: u64,
     nursery: &mut [u64; 4],
     entries: &mut [u64],
@@ -30,8 +28,7 @@ pub extern "C" fn selvaigo_nursery_new(
 }
 
 // A delta.
-#[unsafe(no_mangle)]
-pub extern "C" fn selvaigo_apply_commit(
+pub fn selvaigo_apply_commit(
     nursery: &mut [u64; 4],
     entries: &mut [u64],
     waiting: &mut [u64],
@@ -50,8 +47,7 @@ pub extern "C" fn selvaigo_apply_commit(
 }
 
 // The same, where the record and the tables hold a state.
-#[unsafe(no_mangle)]
-pub extern "C" fn selvaigo_apply_commit_held(
+pub fn selvaigo_apply_commit_held(
     nursery: &mut [u64; 4],
     entries: &mut [u64],
     waiting: &mut [u64],

@@ -1,4 +1,4 @@
-// What a box is read in from, a snapshot and a journal, as C functions, lent as in counters_abi and nursery_abi; include/selvaigo.h declares them.
+// What a box is read in from, a snapshot and a journal, over words, lent as in counters_abi and nursery_abi, for `selvaigo` to export.
 #![tactic(auto)]
 
 ghost use Rattle.std.specs.Prelude.{◌≡◌, [], ◌∷◌};
@@ -10,8 +10,7 @@ use counters::ShrinkSettings;
 use state_steps::{put_counters, put_nursery};
 
 // The state that a snapshot holds, under settings, into a record and a table of any content. A refusal changes neither.
-#[unsafe(no_mangle)]
-pub extern "C" fn selvaigo_deserialize_trusted(
+pub fn selvaigo_deserialize_trusted(
     snapshot: &[u8],
     shrink_base: u64,
     shrink_max: u64,
@@ -34,8 +33,7 @@ pub extern "C" fn selvaigo_deserialize_trusted(
 
 // The same of a snapshot from before 25: a live total below the number of counts is raised to it. The total that the snapshot has goes into
 // old_total, 0 beside a refusal.
-#[unsafe(no_mangle)]
-pub extern "C" fn selvaigo_load_snapshot(
+pub fn selvaigo_load_snapshot(
     snapshot: &[u8],
     shrink_base: u64,
     shrink_max: u64,
@@ -60,8 +58,7 @@ pub extern "C" fn selvaigo_load_snapshot(
 
 // A journal, read in a mode (a flag, whether there is a key, and the key) into an empty nursery with a delay, in a record and tables of any content. A
 // refusal changes none of them.
-#[unsafe(no_mangle)]
-pub extern "C" fn selvaigo_read_journal(
+pub fn selvaigo_read_journal(
     keyed: u8,
     key: &[u8],
     journal: &[u8],

@@ -1,5 +1,4 @@
-// Hash, records, the scan of a journal and its conversion as C functions; include/selvaigo.h declares them. A slice passes as a pointer and a length, an array as a pointer.
-// A mode is a flag, whether there is a key, and the key.
+// Hash, records, the scan of a journal and its conversion over words, for `selvaigo` to export. A mode is a flag, whether there is a key, and the key.
 #![tactic(auto)]
 
 ghost use Rattle.std.specs.Prelude.{◌≡◌, [], ◌∷◌};
@@ -11,16 +10,14 @@ use base::Refusal;
 use blake3::{bad_key, hash_from, start_of};
 
 // The hash of bytes.
-#[unsafe(no_mangle)]
-pub extern "C" fn selvaigo_hash(bytes: &[u8], hash: &mut [u8; 32])
+pub fn selvaigo_hash(bytes: &[u8], hash: &mut [u8; 32])
     ensures { hash.new ≡ blake3.hash bytes.now }
 {
     *hash = blake3::hash(bytes);
 }
 
 // The hash of bytes under a key.
-#[unsafe(no_mangle)]
-pub extern "C" fn selvaigo_keyed_hash(key: &[u8], bytes: &[u8], hash: &mut [u8; 32]) -> u8
+pub fn selvaigo_keyed_hash(key: &[u8], bytes: &[u8], hash: &mut [u8; 32]) -> u8
     ensures { said result (hash.new ∷ []) [] ≡ keyed_hash_said key.now bytes.now }
 {
     if bad_key(true, key) {
@@ -33,8 +30,7 @@ pub extern "C" fn selvaigo_keyed_hash(key: &[u8], bytes: &[u8], hash: &mut [u8; 
 }
 
 // The record of a delta in a mode, written into the output.
-#[unsafe(no_mangle)]
-pub extern "C" fn selvaigo_encode_record(
+pub fn selvaigo_encode_record(
     keyed: u8,
     key: &[u8],
     id: u64,
@@ -71,8 +67,7 @@ pub extern "C" fn selvaigo_encode_record(
 }
 
 // The record that bytes start with, in a mode.
-#[unsafe(no_mangle)]
-pub extern "C" fn selvaigo_decode_record(
+pub fn selvaigo_decode_record(
     keyed: u8,
     key: &[u8],
     bytes: &[u8],
@@ -100,13 +95,7 @@ pub extern "C" fn selvaigo_decode_record(
 }
 
 // The records of a journal in a mode, applied to nothing.
-#[unsafe(no_mangle)]
-pub extern "C" fn selvaigo_scan_journal(
-    keyed: u8,
-    key: &[u8],
-    journal: &[u8],
-    scan: &mut [u64; 3],
-) -> u8
+pub fn selvaigo_scan_journal(keyed: u8, key: &[u8], journal: &[u8], scan: &mut [u64; 3]) -> u8
     ensures { said result (scan.new ∷ []) [] ≡ scan_said keyed key.now journal.now }
 {
     let x = journal_scan::scan(keyed != 0, key, journal);
@@ -118,8 +107,7 @@ pub extern "C" fn selvaigo_scan_journal(
 }
 
 // A journal of no key without the bytes that its payloads have after their last items, and the list of these.
-#[unsafe(no_mangle)]
-pub extern "C" fn selvaigo_convert_journal(
+pub fn selvaigo_convert_journal(
     journal: &[u8],
     out: &mut [u8],
     dropped: &mut [u8],

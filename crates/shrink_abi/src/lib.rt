@@ -1,4 +1,4 @@
-// The counters' shrinking as C functions, lent as in counters_abi; include/selvaigo.h declares them.
+// The counters' shrinking over words, lent as in counters_abi, for `selvaigo` to export.
 #![tactic(auto)]
 
 ghost use Rattle.std.specs.Prelude.{◌≡◌, true, [], ◌∷◌};
@@ -12,8 +12,7 @@ use state_steps::put_shrunk;
 use state_words::counters_of;
 
 // Which sets are to be shrunk.
-#[unsafe(no_mangle)]
-pub extern "C" fn selvaigo_shrink_if_needed(
+pub fn selvaigo_shrink_if_needed(
     state: &mut [u64; 16],
     counts: &[u64],
     bytes_saved: u64,
@@ -27,8 +26,7 @@ pub extern "C" fn selvaigo_shrink_if_needed(
 }
 
 // The same, where the record and the table hold a state.
-#[unsafe(no_mangle)]
-pub extern "C" fn selvaigo_shrink_if_needed_held(
+pub fn selvaigo_shrink_if_needed_held(
     state: &mut [u64; 16],
     counts: &[u64],
     bytes_saved: u64,
@@ -43,20 +41,14 @@ pub extern "C" fn selvaigo_shrink_if_needed_held(
 }
 
 // Whether so many removals call for shrinking: 1 or 0.
-#[unsafe(no_mangle)]
-pub extern "C" fn selvaigo_should_shrink(
-    alive: u64,
-    removed_since_shrink: u64,
-    min_removed: u64,
-) -> u8
+pub fn selvaigo_should_shrink(alive: u64, removed_since_shrink: u64, min_removed: u64) -> u8
     ensures { result ≡ bit (should_shrink alive removed_since_shrink min_removed) }
 {
     shrink_rules::should_shrink(alive, removed_since_shrink, min_removed) as u8
 }
 
 // The threshold that follows a shrink which saved so many bytes, by the settings given. No removal count has a part in it.
-#[unsafe(no_mangle)]
-pub extern "C" fn selvaigo_adjust_shrink_threshold(
+pub fn selvaigo_adjust_shrink_threshold(
     min_alive_removed_before_shrink: u64,
     bytes_saved: u64,
     shrink_base: u64,

@@ -1,4 +1,4 @@
-// The counters' snapshots as C functions, lent as in counters_abi; include/selvaigo.h declares them.
+// The counters' snapshots over words, lent as in counters_abi, for `selvaigo` to export.
 #![tactic(auto)]
 
 ghost use Rattle.std.specs.Prelude.{◌≡◌, true, [], ◌∷◌};
@@ -10,12 +10,7 @@ use state_steps::put_wrote;
 use state_words::counters_of;
 
 // How many bytes the snapshot takes.
-#[unsafe(no_mangle)]
-pub extern "C" fn selvaigo_serialized_len(
-    state: &[u64; 16],
-    counts: &[u64],
-    len: &mut [u64; 1],
-) -> u8
+pub fn selvaigo_serialized_len(state: &[u64; 16], counts: &[u64], len: &mut [u64; 1]) -> u8
     ensures { said result (len.new ∷ []) [] ≡ length_said state.now counts.now }
 {
     let c = counters_of(state);
@@ -24,12 +19,7 @@ pub extern "C" fn selvaigo_serialized_len(
 }
 
 // The same, where the record and the table hold a state.
-#[unsafe(no_mangle)]
-pub extern "C" fn selvaigo_serialized_len_held(
-    state: &[u64; 16],
-    counts: &[u64],
-    len: &mut [u64; 1],
-) -> u8
+pub fn selvaigo_serialized_len_held(state: &[u64; 16], counts: &[u64], len: &mut [u64; 1]) -> u8
     requires { layout.holds (counters_of state.now) counts.now ≡ true }
     ensures { said result (len.new ∷ []) [] ≡ length_said state.now counts.now }
 {
@@ -40,8 +30,7 @@ pub extern "C" fn selvaigo_serialized_len_held(
 }
 
 // The snapshot of a state, written into the output.
-#[unsafe(no_mangle)]
-pub extern "C" fn selvaigo_serialize(
+pub fn selvaigo_serialize(
     state: &[u64; 16],
     counts: &[u64],
     out: &mut [u8],
@@ -55,8 +44,7 @@ pub extern "C" fn selvaigo_serialize(
 }
 
 // The same, where the record and the table hold a state.
-#[unsafe(no_mangle)]
-pub extern "C" fn selvaigo_serialize_held(
+pub fn selvaigo_serialize_held(
     state: &[u64; 16],
     counts: &[u64],
     out: &mut [u8],
