@@ -1,27 +1,44 @@
 #!/bin/sh
-# Tries one must-fail edit, and says what the check says first against it.
+# Tries one must-fail edit, and says what the check says against it; or runs a program with it.
 #
-#   tools/edit.sh CRATE EDIT                    crates/CRATE/must-fail/EDIT.edit: refused or not, and the first error
+#   tools/edit.sh CRATE EDIT                    crates/CRATE/must-fail/EDIT.edit: refused or not, and the first error, by `rt must-fail CRATE`
 #   tools/edit.sh CRATE EDIT PROGRAM [STDIN]    runs a program with the edit in it, unproved, on its own input or on another file: what it writes
 #
-# The edit is made in a copy below target/edit. The first try of a crate costs a check of it, the next ones a few seconds. Exit status: 0 where the
-# edit is refused, or the program ran.
+# `rt must-fail` tries all edits of the crate that it has not tried as they stand: the first call costs a check of the crate and some seconds for each
+# edit, a later one next to nothing. A program is made in a copy outside the repository, by `rt try`. Exit status: 0 where the edit is refused, or the
+# program ran.
 set -eu
 [ $# -ge 2 ] || { sed -n '2,9s/^# \{0,1\}//p' "$0"; exit 2; }
 root=$(cd "$(dirname "$0")/.." && pwd)
 crate=$1 edit=$2 program=${3:-} input=${4:-}
 file=$root/crates/$crate/must-fail/$edit.edit
 [ -f "$file" ] || { echo "there is no crates/$crate/must-fail/$edit.edit" >&2; exit 2; }
-[ -z "$input" ] || input=$(cd "$(dirname "$input")" && pwd)/$(basename "$input")
-work=$root/target/edit/$crate
-mkdir -p "$root/target/rlib" "$root/target/stamp" "$work/target"
-rm -rf "$work/crates"
-mkdir "$work/crates"
+work=$(mktemp -d)
+trap 'rm -rf "$work"' EXIT
+if [ -z "$program" ]; then
+    cd "$root"
+    rt must-fail "$crate" >"$work/said" 2>&1 || :
+    # what is said of the edit, with the lines behind it that name no other
+    awk -v it="$crate/$edit.edit:" '/^rt: |^[0-9]+ passed/ { on = index($0, it) } on' "$work/said" >"$work/mine"
+    [ -s "$work/mine" ] || { cat "$work/said"; exit 1; }
+    cut -c 1-700 "$work/mine"
+    grep -q ': refused' "$work/mine"
+    exit
+fi
+[ -d "$root/crates/$program" ] || { echo "there is no crates/$program" >&2; exit 2; }
+own=$root/crates/$program
+[ -n "$input" ] || { input=/dev/null; [ ! -f "$own/stdin" ] || input=$own/stdin; }
+input=$(cd "$(dirname "$input")" && pwd)/$(basename "$input")
+wanted=/dev/null
+[ ! -f "$own/stdout" ] || wanted=$own/stdout
+# another input has no output that is wanted
+[ $# -lt 4 ] || wanted=
 cp "$root/crates.txt" "$work"
-for c in "$root"/crates/*; do ln -s "$c" "$work/crates"; done
-for part in rlib stamp; do ln -sfn "$root/target/$part" "$work/target/$part"; done
-rm "$work/crates/$crate"
-cp -R "$root/crates/$crate" "$work/crates/$crate"
+mkdir "$work/crates"
+for c in "$root"/crates/*; do
+    mkdir "$work/crates/${c##*/}"
+    for part in src specs proofs; do [ ! -d "$c/$part" ] || cp -R "$c/$part" "$work/crates/${c##*/}"; done
+done
 python3 - "$file" "$work/crates/$crate" <<'P'
 import sys
 name = old = ""
@@ -39,21 +56,28 @@ for line in open(sys.argv[1], encoding="utf8"):
             sys.exit(f"an 'old:' text stands {text.count(old)} times in {name}: {old}")
         open(path, "w", encoding="utf8").write(text.replace(old, rest))
 P
-cd "$work"
-if [ -n "$program" ]; then
-    if [ "$program" != "$crate" ]; then rm "crates/$program"; cp -R "$root/crates/$program" "crates/$program"; fi
-    [ -z "$input" ] || { cp "$input" "crates/$program/stdin"; rm -f "crates/$program/stdout"; }
-    rt try "$program" >said 2>&1 && { echo "$program writes what it should"; exit 0; }
-    # where the first of the ways to run it wrote something else, up to 200 bytes
-    found=$(sed -nE 's/^on standard output, (at byte [0-9]+), expected "(.*)"( \([^)]*\))?, found "(.*)"( \([^)]*\))?$/\1 in place of\\n\2\\nit writes\\n\4/p' said | head -n 1)
-    if [ -n "$found" ]; then printf '%b\n' "$found"; else cat said; fi
-    exit 0
+set --
+for data in "$own"/data/*; do
+    [ ! -f "$data" ] || set -- "$@" --data "${data##*/}=$data"
+done
+status=0
+(cd "$work/crates/$program" && rt try "$@" <"$input" >"$work/wrote" 2>"$work/said") || status=$?
+# 1: refused, 2 and 3: no answer, 4: a fault, as `rt help` has it
+if grep -q 'run=none' "$work/said"; then cat "$work/said"; exit 1; fi
+if [ "$status" -ge 4 ]; then
+    echo "FAIL: $program stops"
+    tail -n 3 "$work/said" | cut -c 1-700
+elif [ -z "$wanted" ]; then
+    cat "$work/wrote"
+elif cmp -s "$wanted" "$work/wrote"; then
+    echo "$program writes what it should"
+else
+    python3 - "$wanted" "$work/wrote" <<'P'
+import sys
+wanted, wrote = (open(path, "rb").read() for path in sys.argv[1:])
+at = next((i for i, (a, b) in enumerate(zip(wanted, wrote)) if a != b), min(len(wanted), len(wrote)))
+start = max(wrote.rfind(b"\n", 0, at), wanted.rfind(b"\n", 0, at)) + 1
+shown = [text[start : start + 200].decode("utf8", "replace").split("\n")[0] for text in (wanted, wrote)]
+print(f"at byte {at} in place of\n{shown[0]}\nit writes\n{shown[1]}")
+P
 fi
-if rt dev "$crate" >said 2>&1; then
-    echo "NOT REFUSED: $crate is still proved with $edit"
-    exit 1
-fi
-grep -q '^logic=not-proved' said || { cat said; echo "BAD EDIT: $edit did not reach the prover"; exit 1; }
-echo "refused:"
-# a function without a proof file has its error in a note
-grep -m 1 -A 3 ': error\|^note: .*is not proved' said | cut -c 1-700

@@ -7,7 +7,7 @@
 An edit is made in a copy and run, unproved, by tools/edit.sh in the programs that use its crate, one after the other, until one writes something else
 than it should. What none tells from the right program is named at the end: such an edit makes no wrong program, or the lists of calls have no step that
 shows it (they call no held form). Nothing is proved by this, and the gate doesn't need it: it is for the day when
-code moves. It takes five minutes on two cores. Exit status: 1 where an edit could not be run at all.
+code moves. Exit status: 1 where an edit could not be run at all.
 """
 import os
 import subprocess
@@ -22,7 +22,7 @@ def needed():
     """For each crate the crates that it names in crates.txt."""
     with open(os.path.join(ROOT, "crates.txt"), encoding="utf8") as file:
         lines = [line.partition("#")[0].partition(":") for line in file]
-    return {name.strip(): names.split() for name, _, names in lines if name.strip()}
+    return {name.split()[0]: names.split() for name, _, names in lines if name.strip()}
 
 
 def uses(needs, program, crate):
@@ -76,7 +76,6 @@ def main():
             else:
                 hidden.append(f"{crate}/{edit}")
 
-    # an edit's copy stands below target/ by its crate, so the edits of one crate run in turn
     with ThreadPoolExecutor(2) as pool:
         list(pool.map(run, sys.argv[1:] or needs))
     for edit in sorted(hidden):

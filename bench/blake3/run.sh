@@ -7,7 +7,7 @@
 # Needs Debian's packages librust-blake3-dev and, to count, valgrind.
 set -eu
 cd "$(dirname "$0")"
-(cd ../.. && rt staticlib record_abi >/dev/null)
+../../tools/staticlib.sh >/dev/null
 target=../../target/bench
 for kind in portable sse2 best; do
     cargo build --quiet --release --features "$kind" --target-dir "$target/$kind"
