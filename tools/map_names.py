@@ -3,7 +3,7 @@
 
   tools/map_names.py     say what is wrong, and exit with 1 where something is
 
-A name stands between backquotes: `crate Module.name` (in crates/CRATE/specs/Module.antt), `crate Module`, `crate::function` (public, in crates/CRATE/src), a crate, `CRATE/EDIT`, or a name alone, which is of the module or of the crate
+A name stands between backquotes: `crate Module.name` (in crates/CRATE/specs/Module.antt, a law also in crates/CRATE/proofs), `crate Module`, `crate::function` (public, in crates/CRATE/src), a crate, `CRATE/EDIT`, or a name alone, which is of the module or of the crate
 named before it in the cell. Words in parentheses behind a name of a module are names of that module. A `list` is a file of a program's data. Each rule of docs/SCOPE.md has its row, and each row its rule.
 """
 import functools
@@ -27,9 +27,10 @@ def is_crate(name):
 
 
 def module(crate, name):
-    """The text of a module of definitions or laws, or of the type of that name that the code declares."""
-    path = ("crates", crate, "specs", name + ".antt")
-    return read(*path) if os.path.exists(os.path.join(ROOT, *path)) else None
+    """The text of a module of definitions or laws."""
+    paths = [("crates", crate, part, name + ".antt") for part in ("specs", "proofs")]
+    texts = [read(*path) for path in paths if os.path.exists(os.path.join(ROOT, *path))]
+    return "\n".join(texts) if texts else None
 
 
 @functools.cache
@@ -118,7 +119,7 @@ def faults():
     for number, line in enumerate(text.splitlines(), 1):
         for cell in cells(line) if line.startswith("|") else [line]:
             look = Cell()
-            for found in re.finditer(r"`([^`]+)`(?: \(([a-z0-9-]+(?:, [a-z0-9-]+)*)\))?", cell):
+            for found in re.finditer(r"`([^`]+)`(?: \(([\w-]+(?:, [\w-]+)*)\))?", cell):
                 if look.missing(found[1], cell[: found.start()]):
                     yield f"docs/MAP.md:{number}: not there: {found[1]}"
                 elif found[2] and look.module is not None:
