@@ -1,4 +1,4 @@
-// Reading and writing a bitmap of a million members: the proved code (by roaring_abi) beside CRoaring, in turns in
+// Reading and writing a bitmap of a million members: the proved code (by roaring_abi_c) beside CRoaring, in turns in
 // one run. All members lie below 2^32, so the 64-bit bitmap has one bucket, and what CRoaring reads and writes is that bucket.
 #include <roaring/roaring.h>
 #include <stdbool.h>
