@@ -153,7 +153,7 @@ step-in-step {z} {b} {p} x t s = go (accepted (step b x).0) refl
 run-in-step : {z : Fixed} {b : Box} {p : Plain} (xs : List Call) → all typed xs ≡ true → InStep z b p → InStep z (run b xs) (run_plain p xs (answers b xs))
 unfolding run run_plain answers all
 run-in-step [] t s = s
-run-in-step (x ∷ xs) t s = run-in-step xs (and_right (typed x) (all typed xs) t) (step-in-step x (and_left (typed x) (all typed xs) t) s)
+run-in-step {z = z} {b = b} {p = p} (x ∷ xs) t s = run-in-step {b = (step b x).1} {p = plain_step p x (accepted (step b x).0)} xs (and_right (typed x) (all typed xs) t) (step-in-step x (and_left (typed x) (all typed xs) t) s)
 
 -- after any calls the box is in step with its plain box
 pub in_step : (h : History) → Typed h → InStep (fixed_of h) (end h) (plain h)

@@ -166,7 +166,7 @@ holding-step {z} {b} x t h = go (accepted (step b x).0) refl
 pub holding-run : {z : Fixed} {b : Box} (xs : List Call) → all typed xs ≡ true → Holding z b → Holding z (run b xs)
 unfolding run all
 holding-run [] t h = h
-holding-run (x ∷ xs) t h = holding-run xs (and_right (typed x) (all typed xs) t) (holding-step x (and_left (typed x) (all typed xs) t) h)
+holding-run {z = z} {b = b} (x ∷ xs) t h = holding-run {b = (step b x).1} xs (and_right (typed x) (all typed xs) t) (holding-step x (and_left (typed x) (all typed xs) t) h)
 
 -- a box that started fresh always holds a state
 pub holding : (h : History) → Typed h → Holding (fixed_of h) (end h)

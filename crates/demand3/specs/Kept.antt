@@ -93,7 +93,7 @@ held-step {z} {b} x t h = go (accepted (step b x).0) refl
 held-run : {z : Fixed} {b : Box} (xs : List Call) → all typed xs ≡ true → HeldBytes z b → HeldBytes z (run b xs)
 unfolding run all
 held-run [] t h = h
-held-run (x ∷ xs) t h = held-run xs (and_right (typed x) (all typed xs) t) (held-step x (and_left (typed x) (all typed xs) t) h)
+held-run {z = z} {b = b} (x ∷ xs) t h = held-run {b = (step b x).1} xs (and_right (typed x) (all typed xs) t) (held-step x (and_left (typed x) (all typed xs) t) h)
 
 held-end : (a : History) → Typed a → HeldBytes (fixed_of a) (end a)
 unfolding end empty all

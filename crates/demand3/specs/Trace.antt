@@ -215,7 +215,7 @@ module _ (m : Mode) (good : bad_key m ≡ false) where
   unfolding records all
   traced [] t h r = record { steps = []; same = refl; applies = done; listed = listed-none }
   traced {z} {b} {c} {n} {u} (x ∷ xs) t h r =
-      go (accepted (step b x).0) refl (λ c' n' v g q. traced xs (and_right (typed x) (all typed xs) t) g q)
+      go (accepted (step b x).0) refl (λ c' n' v g q. traced {b = (step b x).1} {c = c'} {n = n'} {u = v} xs (and_right (typed x) (all typed xs) t) g q)
     where
       go : (ok : Bool) → accepted (step b x).0 ≡ ok
           → ((c' : counts.State) (n' v : entries.State) → Holds z (step b x).1 c' n' → Reads n' v → Traced (hash_by m) z v (records m (step b x).1 xs))

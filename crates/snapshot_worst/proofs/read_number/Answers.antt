@@ -1,4 +1,8 @@
-use Rattle.snapshot_worst.specs.NumberLaws.{no_digit, four-digits}
+use Rattle.snapshot_worst.specs.NumberLaws.{no_digit, four-digits, digits-read}
+use Rattle.snapshot_bound.specs.AskedLaws.{unended-prefix}
+use mathlib.Core.Path.{sym, ap, ◌∙◌}
+use native.Mathlib.Omega.{arith}
+use lib.ListN.{length, take}
 use Rattle.snapshot_worst.proofs.read_number.Goals as goal
 
 -- src/lib.rt:80:9
@@ -11,8 +15,11 @@ returns-then-len-gt3 c = four-digits c.args.s.now c.unended_len-len.result c.une
 
 -- src/lib.rt:85:20
 pub slice_bounds-spelled_number-end : goal.slice_bounds-spelled_number-end
-slice_bounds-spelled_number-end c = ?
+slice_bounds-spelled_number-end c =
+    let p = ap length (unended-prefix c.args.s.now) in
+    rw c.unended_len-len.ensures (sym p)
 
 -- src/lib.rt:75:1
 pub returns : goal.returns
-returns c = ?
+returns c =
+    digits-read c.args.s.now c.unended_len-len.result c.unended_len-len.ensures c.spelled_number.result (omega arith) c.if-len-gt3.false c.spelled_number.ensures

@@ -1,0 +1,14 @@
+use Rattle.base.specs.Logic.{any, elem}
+use Rattle.rows.specs.Keys.{keys, first_four}
+use Rattle.cell_nursery.specs.Calls.{length_width}
+use Rattle.delta_items.specs.Walk.{inserts_in, inserts_len, inserts_from}
+use Rattle.delta_items.specs.WalkLaws.{Left}
+use mathlib.Core.Path.{◌≡◌}
+use Prim.Native.Nat.{◌-◌}
+use Rattle.delta_checks.proofs.any_stored.Given as goal
+
+abbrev pub invariant-loop-i : goal.invariant-loop-i
+invariant-loop-i l = (Left (length_width l.wide) l.inserts l.i l.at (inserts_len (length_width l.wide) l.inserts l.items) l.items) × (any (λ e. elem e.hash (keys first_four 8 l.r.entries l.es)) (inserts_from (length_width l.wide) l.inserts l.i l.at l.items) ≡ any (λ e. elem e.hash (keys first_four 8 l.r.entries l.es)) (inserts_in (length_width l.wide) l.inserts l.items))
+
+abbrev pub decreases-loop-i : goal.decreases-loop-i
+decreases-loop-i l = l.inserts - l.i

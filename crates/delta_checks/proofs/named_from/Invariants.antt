@@ -1,0 +1,15 @@
+use mathlib.Core.List.{map}
+use Rattle.base.specs.Logic.{elem}
+use Rattle.rows.specs.Wide.{key_of}
+use Rattle.cell_nursery.specs.Calls.{length_width}
+use Rattle.delta_items.specs.Walk.{inserts_len, inserts_from}
+use Rattle.delta_items.specs.WalkLaws.{Left}
+use mathlib.Core.Path.{◌≡◌}
+use Prim.Native.Nat.{◌-◌}
+use Rattle.delta_checks.proofs.named_from.Given as goal
+
+abbrev pub invariant-loop-i : goal.invariant-loop-i
+invariant-loop-i l = (Left (length_width l.wide) l.inserts l.i l.at (inserts_len (length_width l.wide) l.inserts l.items) l.items) × (elem (key_of l.hash) (map (λ e. e.hash) (inserts_from (length_width l.wide) l.inserts l.i l.at l.items)) ≡ elem (key_of l.hash) (map (λ e. e.hash) (inserts_from (length_width l.wide) l.inserts l.from l.start l.items)))
+
+abbrev pub decreases-loop-i : goal.decreases-loop-i
+decreases-loop-i l = l.inserts - l.i
