@@ -9,8 +9,8 @@ use Rattle.journal_scan.proofs.damages.Goals as goal
 
 pub returns-in-Taken : goal.returns-in-Taken
 unfolding damages
-returns-in-Taken c = ap damages (sym c.enum_told-1.given.1)
+returns-in-Taken c = ap damages (sym c.in-Taken.is)
 
 pub returns-in-Refused : goal.returns-in-Refused
 unfolding damages
-returns-in-Refused c = ap (λ (n : ℕ). not (eqb n 16)) c.number.ensures ∙ ap damages (sym c.ended-1.given.1)
+returns-in-Refused c = ap (λ (n : ℕ). not (eqb n 16)) c.number.ensures ∙ ap damages (sym c.in-Refused.is)

@@ -69,4 +69,4 @@ pub returns-in-Refused : goal.returns-in-Refused
 returns-in-Refused c =
     let a = c.args in
     let l = c.loop-place in
-    stopped (hash_from a.start) a.s.now l.records l.place l.invariant (omega (arith, l.invariant.inside, c.if-place-end)) c.decode_from-d.result c.decode_from-d.ensures c.enum_told-1.given.0.0 c.in_default.is
+    stopped (hash_from a.start) a.s.now l.records l.place l.invariant (omega (arith, l.invariant.inside, c.if-place-end)) c.decode_from-d.result c.decode_from-d.ensures c.in-Refused.field-0 c.in-Refused.is

@@ -1,8 +1,8 @@
 use Rattle.snapshot_worst.specs.NumberLaws.{no_digit, four-digits, digits-read}
 use Rattle.snapshot_bound.specs.AskedLaws.{unended-prefix}
-use mathlib.Core.Path.{sym, ap, ◌∙◌}
+use mathlib.Core.Path.{sym, ap}
 use native.Mathlib.Omega.{arith}
-use lib.ListN.{length, take}
+use lib.ListN.{length}
 use Rattle.snapshot_worst.proofs.read_number.Goals as goal
 
 -- src/lib.rt:80:9

@@ -2,7 +2,7 @@ use Rattle.snapshot_tiers.specs.Heads.{past}
 use Rattle.snapshot_lanes.specs.Lanes.{lane_list, AllOpen, lists_of}
 use mathlib.Core.Path.{◌≡◌}
 use mathlib.Core.List.{◌++◌, map}
-use Prim.Native.Nat.{◌+◌, ◌-◌, ◌≤◌}
+use Prim.Native.Nat.{◌-◌, ◌≤◌}
 use lib.ListN.{length, take, drop}
 use Rattle.snapshot_lanes.proofs.lanes.advance.Given as goal
 

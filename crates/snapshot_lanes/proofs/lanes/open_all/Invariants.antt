@@ -3,7 +3,7 @@ use Rattle.snapshot_lanes.specs.Lanes.{lane_list, AllOpen}
 use mathlib.Core.Path.{◌≡◌}
 use mathlib.Core.List.{◌++◌, map}
 use mathlib.Core.Bool.{true}
-use Prim.Native.Nat.{◌+◌, ◌-◌, ◌≤◌}
+use Prim.Native.Nat.{◌-◌, ◌≤◌}
 use lib.ListN.{length, take, drop}
 use Rattle.snapshot_lanes.proofs.lanes.open_all.Given as goal
 

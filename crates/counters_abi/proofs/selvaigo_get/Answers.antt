@@ -1,0 +1,8 @@
+-- `counters_abi::selvaigo_get` meets its contract: the call under it, over words. Assumes nothing.
+use Rattle.word_calls.proofs.CountersSaidLaws.{get-said}
+use Rattle.counters_abi.proofs.selvaigo_get.Goals as goal
+
+pub returns : goal.returns
+returns c =
+    let a = c.args in
+    get-said a.state.now c.counters_of-c.ensures a.counts.now a.idx c.get-x.ensures c.put_got.ensures
