@@ -158,7 +158,7 @@ follow-run {delay} {e} {out} {b} [] t n f = rw (or-none out) f
 follow-run {delay} {e} {out} {b} (x ∷ xs) t n f =
     let m = or-false (accepted (step b x).0 && removes e x) (removes_hash e.hash (step b x).1 xs) n in
     rw (← or_assoc out (accepted (step b x).0 && drains delay e x) (drains_from (e.born + delay) (step b x).1 xs))
-    (follow-run xs (all_tail typed x xs t) m.1 (follow-step f x (all_head typed x xs t) m.0))
+    (follow-run {out = out || (accepted (step b x).0 && drains delay e x)} {b = (step b x).1} xs (all_tail typed x xs t) m.1 (follow-step f x (all_head typed x xs t) m.0))
 
 -- what calls hand out under its hash
 promote-run : {delay : ℕ} {e : Entry} {out : Bool} {b : Box} (xs : List Call) → all typed xs ≡ true → removes_hash e.hash b xs ≡ false
@@ -167,7 +167,7 @@ unfolding promoted_in any_accepted keep
 promote-run {delay} {e} {out} {b} [] t n f = rw (and-false (not out))
 promote-run {delay} {e} {out} {b} (x ∷ xs) t n f =
     let m = or-false (accepted (step b x).0 && removes e x) (removes_hash e.hash (step b x).1 xs) n in
-    let rest = promote-run xs (all_tail typed x xs t) m.1 (follow-step f x (all_head typed x xs t) m.0) in
+    let rest = promote-run {out = out || (accepted (step b x).0 && drains delay e x)} {b = (step b x).1} xs (all_tail typed x xs t) m.1 (follow-step f x (all_head typed x xs t) m.0) in
     keep_append (λ y. eqb y.hash e.hash) (promoted_by b x) (promoted_in (step b x).1 xs)
     ∙ rw (call-promotes f x, rest) (go (accepted (step b x).0) (drains delay e x) out (drains_from (e.born + delay) (step b x).1 xs))
   where
