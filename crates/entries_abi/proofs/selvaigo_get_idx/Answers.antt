@@ -1,0 +1,8 @@
+-- `entries_abi::selvaigo_get_idx` meets its contract: the call under it, over words. Assumes nothing.
+use Rattle.word_calls.specs.NurserySaid.{idx_said}
+use Rattle.word_calls.proofs.NurserySaidLaws.{found-said}
+use Rattle.entries_abi.proofs.selvaigo_get_idx.Goals as goal
+
+pub returns : goal.returns
+unfolding idx_said
+returns c = found-said (rw c.nursery_of.ensures at c.get_idx-x.ensures) c.put_found.ensures
