@@ -1,0 +1,9 @@
+-- `nursery_abi::selvaigo_nursery_new` meets its contract: the call under it, over words. Assumes nothing.
+use Rattle.word_calls.specs.NurserySaid.{empty_said}
+use Rattle.word_calls.proofs.NurserySaidLaws.{made-said}
+use Rattle.nursery_abi.proofs.selvaigo_nursery_new.Goals as goal
+
+pub returns : goal.returns
+unfolding empty_said
+returns c =
+    made-said c.args.nursery.now c.new-x.ensures c.put_nursery.ensures
