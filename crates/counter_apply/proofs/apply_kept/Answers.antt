@@ -31,8 +31,7 @@ returns c =
     let f = c.drop_rows-freed in
     let m = c.maintained_by-m in
     let d = c.tally-2 in
-    let a = c.tally in
-    (
+    let a = c.tally in (
       record-after c.args.c c.args.t.now c.args.b.now c.requires f.result _ f.ensures.0 f.ensures.1 _ g.result m.result (rw (a.ensures, d.ensures)) m.ensures g.ensures.0,
       table-after c.args.c c.args.t.now c.args.b.now c.requires f.result _ f.ensures.0 f.ensures.1 _ g.ensures.1,
     )

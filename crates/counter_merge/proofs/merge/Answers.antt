@@ -11,8 +11,7 @@ loop-i-init c = merge-begin c.args.n c.args.at c.args.s c.args.t.now c.requires
 
 pub merge_one-next-requires : goal.merge_one-next-requires
 merge_one-next-requires c =
-    let l = c.loop-i in
-    (
+    let l = c.loop-i in (
       omega arith,
       omega (arith, c.requires.room, l.invariant.fronts, l.invariant.backs),
       omega (arith, aside-fits c.args.n c.args.at c.args.s c.args.t.now c.requires, l.invariant.backs, l.invariant.size),

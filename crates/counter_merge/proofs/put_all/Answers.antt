@@ -52,8 +52,11 @@ bounds-b-i-in-loop-i-2 c = omega (arith, in-batch c.args.b.now c.loop-i.i (omega
 pub put_one-next-requires : goal.put_one-next-requires
 put_one-next-requires c =
     let l = c.loop-i in
-    let a = c.args in record { halves = l.invariant.2; t_in_bounds = room_for a.n a.at l.s l.t a.t.now l.invariant.3 l.invariant.1 (transition_at a.b.now l.i) (drop l.i (transitions a.b.now)) (drop (suc l.i) (transitions a.b.now))
-          (from-transition a.b.now l.i (omega arith)) (transitions a.b.now) l.invariant.6 c.requires.b_in_bounds }
+    let a = c.args in record {
+      halves = l.invariant.2;
+      t_in_bounds = room_for a.n a.at l.s l.t a.t.now l.invariant.3 l.invariant.1 (transition_at a.b.now l.i) (drop l.i (transitions a.b.now)) (drop (suc l.i) (transitions a.b.now))
+          (from-transition a.b.now l.i (omega arith)) (transitions a.b.now) l.invariant.6 c.requires.b_in_bounds;
+    }
 
 pub overflow_add-i-in-loop-i-2 : goal.overflow_add-i-in-loop-i-2
 overflow_add-i-in-loop-i-2 c = omega arith
