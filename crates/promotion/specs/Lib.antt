@@ -1,4 +1,2 @@
 -- `Promotion`: what is claimed.
--- `Lines`: evaluated lines.
 pub mod Promotion
-pub mod Lines
