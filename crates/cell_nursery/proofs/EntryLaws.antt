@@ -23,9 +23,9 @@ use Rattle.cell_nursery.specs.Delta.{Room, present, full, state_after}
 use Rattle.cell_nursery.specs.Drain.{due, drained, lookup}
 use Rattle.base.specs.ListLaws.{eqb-sym, all_keep, ascending-keep}
 use Rattle.base.specs.SumLaws.{or_left, or_right, all_one, sum-keep, length-keep, keep-sorted}
-use Rattle.cell_nursery.proofs.ItemLaws.{fits_item, item-fits}
-use Rattle.cell_nursery.proofs.WaitLaws.{gone_of, waits-insert, waits-remove, waits-drained, tied-waits, waits-tied, Absent, present-absent, first_absent, still-absent}
-use Rattle.cell_nursery.proofs.LayoutLaws.{fits_waiting, WellFormed}
+use Rattle.cell_nursery.proofs.ItemLaws.{item-fits}
+use Rattle.cell_nursery.specs.Held.{fits_item, Absent, fits_waiting, WellFormed}
+use Rattle.cell_nursery.proofs.WaitLaws.{gone_of, waits-insert, waits-remove, waits-drained, tied-waits, waits-tied, present-absent, first_absent, still-absent}
 use Rattle.rows.proofs.RowLaws.{put-one-ascending, put-one-sorted, all-put, sum-put, length-put, length-put-between, keep-absent}
 
 -- ---- the entry of a hash

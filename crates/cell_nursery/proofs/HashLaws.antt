@@ -13,6 +13,7 @@ use Rattle.cell_nursery.specs.Entries.{hash_bytes}
 use Rattle.cell_nursery.specs.Layout.{HashWords, hash_words, hash_of, hash_at}
 use Rattle.base.specs.ListLaws.{all_append}
 use Rattle.base.specs.NumberLaws.{number-below, number_append, digits-below}
+use Rattle.cell_nursery.specs.Held.{U64}
 
 pub hash-words : (h : ℕ) → h < 2 ^ 256 → hash_of (hash_words h) ≡ h
 unfolding hash_of hash_words digits
@@ -52,10 +53,6 @@ module _ (w : HashWords) (u : Words64 w) where
   pub hash-small : hash_of w < 2 ^ 256
   unfolding hash_of
   hash-small = number-below (2 ^ 64) (w.fourth ∷ w.third ∷ w.second ∷ w.first ∷ []) small
-
--- the words of a slice have 64 bits
-abbrev pub U64 : List ℕ → Type 0
-U64 t = (i : ℕ) → get_or t i 0 < 2 ^ 64
 
 pub u64-drop : (n : ℕ) (t : List ℕ) → U64 t → U64 (drop n t)
 u64-drop n t u i = rw (get_or-drop n t i 0) (u (n + i))

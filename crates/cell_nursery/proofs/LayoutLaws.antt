@@ -25,10 +25,10 @@ use Rattle.cell_nursery.proofs.CodingLaws.{entry-lawful, waiting-lawful}
 use Rattle.base.specs.ListLaws.{all_weaker}
 use Rattle.base.specs.SumLaws.{all_map}
 use Rattle.rows.proofs.RowLaws.{IsTable, is-table}
-use Rattle.cell_nursery.proofs.ItemLaws.{fits_item, item-fits, fits-item}
+use Rattle.cell_nursery.proofs.ItemLaws.{item-fits, fits-item}
 use Rattle.cell_nursery.proofs.WaitLaws.{tied-few}
-use Rattle.cell_nursery.proofs.HashLaws.{hash-words, words-hash, hash-small, U64, u64-drop, words-at, hash-first}
-use Rattle.cell_nursery.specs.Held.{CellsHeld, EntriesHeld, WaitingHeld}
+use Rattle.cell_nursery.proofs.HashLaws.{hash-words, words-hash, hash-small, u64-drop, words-at, hash-first}
+use Rattle.cell_nursery.specs.Held.{CellsHeld, EntriesHeld, WaitingHeld, fits_item, U64, fits_waiting, WellFormed, Held}
 
 -- ---- the tests as facts
 
@@ -130,18 +130,6 @@ rows-waiters (suc n) t u = rw (words-hash (hash_at 1 t) (words-at 1 t u), rows-w
 
 -- ---- the states that tables can hold
 
--- a waiting row whose fields fit their words
-unfoldable pub fits_waiting : Waiting → Bool
-fits_waiting w = ltb w.hash (2 ^ 256) && ltb w.born (2 ^ 32)
-
--- entries by ascending hash, waiting rows by round, all fields within their bounds, each waiting row the row of an entry
-pub record WellFormed (s : State) : Type 0 where
-  pub hashes : ascending (map (λ e. e.hash) s.entries) ≡ true
-  pub entries : all fits_item s.entries ≡ true
-  pub rounds : sorted_from 0 (map (λ w. w.born) s.waiting) ≡ true
-  pub waiting : all fits_waiting s.waiting ≡ true
-  pub ties : tied s ≡ true
-
 entries_fit : (n : ℕ) (t cs : List ℕ) → U64 t → all in_bounds (rows_of entry_row n t) ≡ true → all fits_item (map (entry_of cs) (rows_of entry_row n t)) ≡ true
 unfolding rows_of all
 entries_fit zero t cs u e = refl
@@ -172,19 +160,6 @@ waiters-fit (suc n) t u e =
     )
 
 -- ---- what holds a state
-
--- the record and the tables that hold a state are those of that state
-pub record Held (r : Nursery) (es ws cs : List ℕ) : Type 0 where
-  pub entries : EntriesHeld r es
-  pub waiting : WaitingHeld r ws
-  pub cells : CellsHeld r cs
-  pub room : r.entries ≤ min (length es / 8) (length ws / 5)
-  pub fewer : r.waiting ≤ r.entries
-  pub well : WellFormed (state_of r es ws cs)
-  pub same_record : record_of r.delay (state_of r es ws cs) ≡ r
-  pub same_entries : entries_table (length es) (state_of r es ws cs) ≡ es
-  pub same_waiting : waiting_table (length ws) (state_of r es ws cs) ≡ ws
-  pub same_cells : cells_table (length cs) (state_of r es ws cs) ≡ cs
 
 module _ (r : Nursery) (es cs : List ℕ) where
   pub number-entries : length (entries_of r.entries es cs) ≡ r.entries

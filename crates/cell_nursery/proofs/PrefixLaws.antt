@@ -25,10 +25,10 @@ use Rattle.cell_nursery.specs.Entries.{Entry, Waiting}
 use Rattle.cell_nursery.specs.Drain.{due, named, promoted, drained, promoted_bytes, drain_bytes}
 use Rattle.cell_nursery.specs.Layout.{hash_of, hash_at, WaitingRow, waiting_row, entry_of, waiting_row_of, waiter_of, record_of, waiting_table, entries_of, waiting_of, state_of, holds}
 use Rattle.cell_nursery.specs.Calls.{on_state, drain_effect, drained_out, drain_call}
-use Rattle.cell_nursery.proofs.HashLaws.{U64, hash-first}
+use Rattle.cell_nursery.proofs.HashLaws.{hash-first}
 use Rattle.cell_nursery.proofs.EntryLaws.{entry_at-hit, entry_at-miss}
 use Rattle.cell_nursery.proofs.LayoutLaws.{number-entries, entries-keys, bytes_same, number-waiting, waiting-keys, waiters-same}
-use Rattle.cell_nursery.specs.Held.{CellsHeld, EntriesHeld, WaitingHeld}
+use Rattle.cell_nursery.specs.Held.{CellsHeld, EntriesHeld, WaitingHeld, U64}
 use Rattle.cell_nursery.proofs.CodingLaws.{waiting-lawful}
 use Rattle.cell_nursery.proofs.DrainLaws.{due-first, due-rest, due-none, due-all-rest, named-entry_at}
 use Rattle.cell_nursery.proofs.CheckLaws.{waiting-row}

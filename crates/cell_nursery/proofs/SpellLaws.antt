@@ -14,7 +14,8 @@ use Rattle.slices.specs.ByteLaws.{all-reverse}
 use Rattle.cell_nursery.specs.Entries.{Entry, hash_bytes, insert_bytes}
 use Rattle.cell_nursery.specs.Items.{Delta, item_bytes, read_hash, read_insert, delta_of}
 use Rattle.cell_nursery.specs.Delta.{too_long}
-use Rattle.cell_nursery.proofs.ItemLaws.{fits_item, item-fits, fits-item}
+use Rattle.cell_nursery.proofs.ItemLaws.{item-fits, fits-item}
+use Rattle.cell_nursery.specs.Held.{fits_item}
 
 pub read_hash-spells : (bs : List ℕ) → Bytes bs → Gives (Spells hash_bytes (λ h. ltb h (2 ^ 256)) bs) (read_hash bs)
 unfolding read_hash

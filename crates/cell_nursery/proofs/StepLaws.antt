@@ -24,11 +24,11 @@ use Rattle.cell_nursery.specs.Drain.{lookup}
 use Rattle.cell_nursery.specs.Layout.{hash_of, hash_at, EntryRow, entry_row, WaitingRow, waiting_row, entry_row_of, entry_of, waiting_row_of, waiter_of, entry_rows, cells_of, entries_table, waiting_table, cells_table, entries_of, waiting_of, state_of}
 use Rattle.base.specs.SumLaws.{sum-append}
 use Rattle.rows.proofs.RowLaws.{elem-miss, put-absent, keep_all, keep-hit, map-put}
-use Rattle.cell_nursery.proofs.HashLaws.{words-hash, U64, u64-drop, words-at}
+use Rattle.cell_nursery.proofs.HashLaws.{words-hash, u64-drop, words-at}
 use Rattle.cell_nursery.proofs.PutLaws.{put_waiting-rows}
 use Rattle.cell_nursery.proofs.EntryLaws.{lookup-entry_at, entry_at-hit, entry_at-miss, bytes-insert}
 use Rattle.cell_nursery.proofs.LayoutLaws.{length-cells, number-entries, entries-keys, cells_same, bytes_same, rows_same, waiters-same}
-use Rattle.cell_nursery.specs.Held.{CellsHeld, EntriesHeld, WaitingHeld}
+use Rattle.cell_nursery.specs.Held.{CellsHeld, EntriesHeld, WaitingHeld, U64}
 use Rattle.cell_nursery.proofs.CodingLaws.{waiting-lawful}
 use Rattle.cell_nursery.specs.Rows.{earlier, later}
 

@@ -28,6 +28,7 @@ use Rattle.cell_nursery.specs.Items.{Delta}
 use Rattle.cell_nursery.specs.Delta.{present, state_after}
 use Rattle.cell_nursery.specs.Drain.{due, drained}
 use Rattle.cell_nursery.proofs.PutLaws.{put_waiting-rows}
+use Rattle.cell_nursery.specs.Held.{Absent}
 
 -- ---- the waiting rows
 -- the row of an entry that waits
@@ -175,10 +176,6 @@ absent-insert : (h : ℕ) (e : Entry) (s : State) → elem e.hash (map (λ x. x.
 unfolding insert put_entry put_rows any
 absent-insert h e s b ne a =
     any_order (eqb h) (Permᴰ.map (λ x. x.hash) (put-absent (λ x. x.hash) e s.entries e.hash b)) ∙ rw (ne_eqb h e.hash ne) a
-
--- inserted hashes that are absent, each once
-abbrev pub Absent : List Entry → State → Type 0
-Absent is s = (any (λ e. elem e.hash (map (λ x. x.hash) s.entries)) is ≡ false) × (repeated (map (λ e. e.hash) is) ≡ false)
 
 pub present-absent : (s : State) (d : Delta) → present s d ≡ false → Absent d.inserts s
 unfolding present

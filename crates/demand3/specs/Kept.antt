@@ -20,7 +20,7 @@ use Rattle.cell_nursery.specs.Delta.{state_after}
 use Rattle.cell_nursery.specs.Drain.{drained}
 use Rattle.cell_nursery.specs.Layout as nursery
 use Rattle.cell_nursery.specs.Calls.{length_width}
-use Rattle.cell_nursery.proofs.HashLaws.{U64}
+use Rattle.cell_nursery.specs.Held.{U64}
 use Rattle.journal_laws.specs.DeltaLaws.{delta-read}
 use Rattle.node_box.specs.Box.{Box, settings_of, Call, allocate, batch, batch_records, delta, drain, get, shrink, adjust, measure, serialize, lookup, locate, listing, step, run, accepted, nursery_of}
 use Rattle.node_box.specs.Demand.{typed, History, Typed, end}

@@ -11,7 +11,8 @@ use Rattle.base.specs.ListLaws.{all_weaker}
 use Rattle.base.specs.Maybe.{maybe}
 use Rattle.cell_nursery.specs.Entries.{Entry, insert_bytes}
 use Rattle.cell_nursery.specs.Drain.{listing_bytes}
-use Rattle.cell_nursery.proofs.ItemLaws.{fits_item, item-fits, read_insert-append, length-insert}
+use Rattle.cell_nursery.proofs.ItemLaws.{item-fits, read_insert-append, length-insert}
+use Rattle.cell_nursery.specs.Held.{fits_item}
 use Rattle.cell_nursery.specs.Items.{read_insert}
 use Rattle.cell_nursery.proofs.EntryLaws.{entry_at}
 use Rattle.node_box.specs.Box.{listing_of}

@@ -17,8 +17,8 @@ use Rattle.cell_nursery.specs.Delta.{Room, state_after, apply_delta}
 use Rattle.cell_nursery.specs.Items.{Delta, delta_of}
 use Rattle.cell_nursery.specs.Drain.{drained, drain_bytes}
 use Rattle.cell_nursery.specs.Layout.{record_of, entries_table, waiting_table, cells_table, room_of, state_of, delay_in_range, holds, holds_entries, holds_cells}
-use Rattle.cell_nursery.proofs.HashLaws.{U64}
-use Rattle.cell_nursery.proofs.LayoutLaws.{WellFormed, held, number-entries, bytes_same, length-entries_table, length-waiting_table, length-cells_table, state_of-laid, holds-laid, entries-laid, cells-laid}
+use Rattle.cell_nursery.specs.Held.{U64, WellFormed}
+use Rattle.cell_nursery.proofs.LayoutLaws.{held, number-entries, bytes_same, length-entries_table, length-waiting_table, length-cells_table, state_of-laid, holds-laid, entries-laid, cells-laid}
 use Rattle.cell_nursery.proofs.EntryLaws.{well-empty, well-after, well-drained, InRoom, room-empty, room_after}
 use Rattle.cell_nursery.proofs.SettingLaws.{new-taken}
 use Rattle.cell_nursery.specs.Calls.{Changed, DrainedOut, laid, laid_out, on_state, new_call, length_width, delta_call, drained_out, drain_call}

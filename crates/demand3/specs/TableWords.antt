@@ -13,9 +13,8 @@ use Rattle.counters.specs.Layout.{count_row, sound, ordered}
 use Rattle.snapshot_laws.specs.RoundTrip as snapshots
 use Rattle.cell_nursery.specs.Entries.{Entry, Waiting, State, cell_bytes}
 use Rattle.cell_nursery.specs.Layout.{hash_words, entry_row, waiting_row, waiting_row_of, entry_rows, cells_of, entries_table, waiting_table, cells_table}
-use Rattle.cell_nursery.proofs.LayoutLaws.{WellFormed, fits_waiting}
-use Rattle.cell_nursery.proofs.ItemLaws.{fits_item, item-fits}
-use Rattle.cell_nursery.proofs.HashLaws.{U64}
+use Rattle.cell_nursery.specs.Held.{WellFormed, fits_waiting, fits_item, U64}
+use Rattle.cell_nursery.proofs.ItemLaws.{item-fits}
 
 -- each word is a u64
 abbrev pub AllU64 : List ℕ → Type 0

@@ -12,9 +12,9 @@ use Rattle.cell_nursery.proofs.ItemLaws.{delta-counts}
 use Rattle.base.specs.SpellLaws.{Bytes, digits-spelled, read_le-spells}
 use Rattle.cell_nursery.proofs.SpellLaws.{ItemsSpelled, delta-spelled, fits-short}
 use Rattle.format.specs.Payload.{Payload, payload_bytes, payload_of}
-use Rattle.format.specs.Record.{Decoding, hashed, sealed, record_bytes, stats_of, encode, parse, used_bytes, leftover, decode}
+use Rattle.format.specs.Record.{Decoding, hashed, sealed, record_bytes, stats_of, encode, parse, used_bytes, leftover, decode, stated, payload}
 use Rattle.format.proofs.RecordLaws.{Fits, length-payload}
-use Rattle.format.proofs.RefusalLaws.{stated, payload, parse-taken, decode-taken}
+use Rattle.format.proofs.RefusalLaws.{parse-taken, decode-taken}
 use Rattle.format.specs.declared.RecordStats.{RecordStats}
 
 -- a payload as it is written, and what comes after its last item

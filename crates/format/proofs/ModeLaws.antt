@@ -14,7 +14,8 @@ use Rattle.base.specs.declared.Refusal.TheVariants.{BadSetting, Mismatch}
 use Rattle.blake3.specs.Mode.{Mode, bad_key, hash_by}
 use Rattle.format.specs.declared.Decoded.{Decoded}
 use Rattle.format.specs.Calls.{EncodedOut, encoded_out, encode_call, encode_under, decoded_of, decode_call, decode_under}
-use Rattle.format.proofs.RefusalLaws.{Whole, Matches, decode-mismatch, decode-answer, decode-call-numbers, encode-numbers}
+use Rattle.format.proofs.RefusalLaws.{decode-mismatch, decode-answer, decode-call-numbers, encode-numbers}
+use Rattle.format.specs.Record.{Whole, Matches}
 
 -- ---- decoding
 module _ (m : Mode) (bs : List ℕ) where

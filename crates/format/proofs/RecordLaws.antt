@@ -16,7 +16,8 @@ use Rattle.base.specs.declared.Refusal.TheVariants.{ShortRecord}
 use Rattle.slices.specs.Laws.{drop-take, eqb_list-refl}
 use Rattle.cell_nursery.specs.Entries.{cell_bytes}
 use Rattle.cell_nursery.specs.Items.{Delta, item_bytes}
-use Rattle.cell_nursery.proofs.ItemLaws.{fits_item, length-inserts, length-hashes, delta_of-append}
+use Rattle.cell_nursery.proofs.ItemLaws.{length-inserts, length-hashes, delta_of-append}
+use Rattle.cell_nursery.specs.Held.{fits_item}
 use Rattle.format.specs.Payload.{payload_bytes, payload_of}
 use Rattle.format.specs.Record.{hashed, sealed, record_bytes, stats_of, parse, leftover, decode}
 

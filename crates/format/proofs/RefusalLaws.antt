@@ -28,7 +28,7 @@ use Rattle.cell_nursery.specs.Calls.{length_width}
 use Rattle.base.specs.AnswerLaws.{exactly, ends-twice, missing-here, missing-later, missing-numbers, Answers, says, says-numbers}
 use Rattle.cell_nursery.proofs.RefusalLaws.{IsLong, long-test}
 use Rattle.format.specs.Payload.{Payload, payload_bytes, payload_of}
-use Rattle.format.specs.Record.{Encoding, Decoding, record_bytes, stats_of, encode, parse, leftover, decode, stated_hash}
+use Rattle.format.specs.Record.{Encoding, Decoding, record_bytes, stats_of, encode, parse, leftover, decode, stated_hash, stated, payload, Whole, Matches}
 use Rattle.format.proofs.RecordLaws.{length-payload}
 use Rattle.format.specs.Calls.{encoded_out, encode_call, decoded_of, decode_call}
 
@@ -93,20 +93,6 @@ module _ (p : List ℕ) where
       to e = elim (dec_lt (length p) 16) [ yes h ↦ absurd (none-some (payload-short h) e) | no h ↦ later (omega arith) (items_of p) refl e ]
 
 -- ---- parsing
--- the length that a record states, and the payload of that length
-abbrev pub stated : List ℕ → ℕ
-stated bs = unle (take 8 (drop 32 bs))
-
-abbrev pub payload : List ℕ → List ℕ
-payload bs = take (stated bs) (drop 40 bs)
-
--- the record is whole, and its hash is that of length and payload
-abbrev pub Whole : List ℕ → Type 0
-Whole bs = (stated bs < 2 ^ 64 - 8) × (40 + stated bs ≤ length bs)
-
-abbrev pub Matches : (List ℕ → List ℕ) → List ℕ → Type 0
-Matches hash bs = hash (take (8 + stated bs) (drop 32 bs)) ≡ take 32 bs
-
 module _ (hash : List ℕ → List ℕ) (bs : List ℕ) where
   abbrev decoding : Payload → Decoding
   decoding p = record { id = p.id; hash = take 32 bs; delta = p.delta; stats = stats_of (stated bs) p.delta }

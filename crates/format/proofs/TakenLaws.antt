@@ -8,8 +8,8 @@ use Rattle.base.specs.Answers.{taken}
 use Rattle.slices.specs.Laws.{length_part, drop-take}
 use Rattle.cell_nursery.specs.Items.{delta_of}
 use Rattle.cell_nursery.proofs.ItemLaws.{delta-counts}
-use Rattle.format.specs.Record.{Decoding, stats_of, decode}
-use Rattle.format.proofs.RefusalLaws.{stated, payload, payload-some, parse-taken, decode-taken}
+use Rattle.format.specs.Record.{Decoding, stats_of, decode, stated, payload}
+use Rattle.format.proofs.RefusalLaws.{payload-some, parse-taken, decode-taken}
 
 pub record Lent (bs : List ℕ) (x : Decoding) : Type 0 where
   pub head : 16 ≤ x.stats.payload_bytes

@@ -15,9 +15,9 @@ use Rattle.slices.specs.Laws.{length_part}
 use Rattle.slices.specs.Places.{put_at}
 use Rattle.slices.specs.PlaceLaws.{put_at-none, Filling, filling-start, filling-next, filled}
 use Rattle.format.specs.declared.Decoded.{Decoded}
-use Rattle.format.specs.Record.{Decoding, used_bytes, parse}
+use Rattle.format.specs.Record.{Decoding, used_bytes, parse, Whole, Matches}
 use Rattle.format.specs.Calls.{decoded_of, parse_call}
-use Rattle.format.proofs.RefusalLaws.{Whole, Matches, parse-taken}
+use Rattle.format.proofs.RefusalLaws.{parse-taken}
 use Rattle.journal.specs.Convert.{Conversion, convert}
 use Rattle.journal.proofs.ConvertLaws.{convert-refused}
 use Rattle.journal_convert.specs.declared.Sizes.{Sizes}

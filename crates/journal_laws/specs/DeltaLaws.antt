@@ -17,7 +17,8 @@ use Rattle.base.specs.ListLaws.{or-false, all_weaker}
 use Rattle.cell_nursery.specs.Entries.{Entry, State, insert_bytes}
 use Rattle.cell_nursery.specs.Items.{Delta, item_bytes, read_hash, read_insert, delta_of}
 use Rattle.cell_nursery.specs.Delta.{Room, too_long, present, full, state_after, apply_delta}
-use Rattle.cell_nursery.proofs.ItemLaws.{fits_item, length-insert, length-hashes}
+use Rattle.cell_nursery.proofs.ItemLaws.{length-insert, length-hashes}
+use Rattle.cell_nursery.specs.Held.{fits_item}
 use Rattle.cell_nursery.proofs.SpellLaws.{read_hash-spells}
 use Rattle.format.specs.Payload.{payload_bytes}
 use Rattle.format.proofs.RecordLaws.{Fits}

@@ -26,8 +26,8 @@ use Rattle.cell_nursery.specs.Layout.{room_of, delay_in_range}
 use Rattle.cell_nursery.proofs.SpellLaws.{fits-short}
 use Rattle.cell_nursery.proofs.RefusalLaws.{delta-numbers}
 use Rattle.base.specs.AnswerLaws.{not-refused, exactly, Answers}
-use Rattle.format.specs.Record.{Decoding, decode}
-use Rattle.format.proofs.RefusalLaws.{stated, Whole, Matches, decode-short, decode-mismatch, decode-taken, decode-numbers}
+use Rattle.format.specs.Record.{Decoding, decode, stated, Whole, Matches}
+use Rattle.format.proofs.RefusalLaws.{decode-short, decode-mismatch, decode-taken, decode-numbers}
 use Rattle.format.proofs.TakenLaws.{taken-lent}
 use Rattle.format.proofs.ExactLaws.{parsed}
 use Rattle.journal.specs.Journal.{End, pass_record, scan, damages, damaged, apply_record, read_journal, ReadIn, read_out, read_call}

@@ -10,7 +10,8 @@ use Rattle.cell_nursery.specs.Entries.{State, empty}
 use Rattle.cell_nursery.specs.Delta.{Room}
 use Rattle.cell_nursery.proofs.WaitLaws.{Waits, waits-empty, waits-after, none-gone}
 use Rattle.cell_nursery.specs.Layout.{room_of, holds}
-use Rattle.cell_nursery.proofs.LayoutLaws.{WellFormed, holds-laid}
+use Rattle.cell_nursery.proofs.LayoutLaws.{holds-laid}
+use Rattle.cell_nursery.specs.Held.{WellFormed}
 use Rattle.cell_nursery.proofs.EntryLaws.{well-empty, well-after, InRoom, room-empty, room_after}
 use Rattle.cell_nursery.specs.Calls.{laid}
 use Rattle.format.specs.Record.{Decoding, decode}

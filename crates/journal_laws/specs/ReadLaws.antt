@@ -21,7 +21,7 @@ use Rattle.cell_nursery.specs.Entries.{State, empty}
 use Rattle.cell_nursery.specs.Items.{Delta}
 use Rattle.cell_nursery.specs.Delta.{Room, present, full, state_after}
 use Rattle.cell_nursery.proofs.WaitLaws.{Waits, none-gone, waits-after}
-use Rattle.cell_nursery.proofs.LayoutLaws.{WellFormed}
+use Rattle.cell_nursery.specs.Held.{WellFormed}
 use Rattle.cell_nursery.proofs.EntryLaws.{well-after, InRoom, room_after}
 use Rattle.format.specs.Payload.{payload_bytes}
 use Rattle.format.specs.Record.{stats_of, record_bytes}

@@ -22,9 +22,9 @@ use Rattle.cell_nursery.specs.Delta.{Room, apply_delta}
 use Rattle.cell_nursery.specs.Layout.{record_of, entries_table, waiting_table, cells_table, room_of, state_of, delay_in_range, holds}
 use Rattle.cell_nursery.specs.Calls as nursery
 use Rattle.cell_nursery.specs.Calls.{Changed, laid, laid_out, new_call}
-use Rattle.cell_nursery.proofs.HashLaws.{U64}
+use Rattle.cell_nursery.specs.Held.{U64, WellFormed, Held}
 use Rattle.slices.specs.ByteLaws.{U8, u8-drop, u8-part}
-use Rattle.cell_nursery.proofs.LayoutLaws.{WellFormed, Held, held, length-entries_table, length-waiting_table, length-cells_table, state_of-laid, holds-laid}
+use Rattle.cell_nursery.proofs.LayoutLaws.{held, length-entries_table, length-waiting_table, length-cells_table, state_of-laid, holds-laid}
 use Rattle.cell_nursery.proofs.SettingLaws.{new-taken}
 use Rattle.cell_nursery.proofs.EntryLaws.{well-empty, well-after, InRoom, room_after}
 use Rattle.format.specs.Record.{Decoding, decode}

@@ -16,7 +16,8 @@ use Rattle.cell_nursery.specs.Entries.{cell_bytes, insert, remove}
 use Rattle.cell_nursery.specs.Delta.{too_long, present, full, state_after, apply_delta}
 use Rattle.cell_nursery.specs.Layout.{room_of, state_of, holds}
 use Rattle.cell_nursery.specs.Calls.{Changed, effect, laid, laid_out, on_state, length_width, delta_call}
-use Rattle.cell_nursery.proofs.LayoutLaws.{Held, number-entries, entries-keys, bytes_same}
+use Rattle.cell_nursery.proofs.LayoutLaws.{number-entries, entries-keys, bytes_same}
+use Rattle.cell_nursery.specs.Held.{Held}
 use Rattle.delta_items.specs.Walk.{inserts_in, inserts_len, items_fit, delta_in, long_cell}
 use Rattle.delta_items.specs.WalkLaws.{delta-whole, delta-none, fit-inserts, inserts-cells, length-inserts, too-long}
 use Rattle.nursery_steps.specs.Steps.{left}

@@ -7,7 +7,8 @@ use Rattle.base.specs.Laws.{and_both}
 use Rattle.base.specs.SumLaws.{or_left, or_right}
 use Rattle.rows.specs.declared.Wide.{Wide}
 use Rattle.rows.specs.Wide.{key_of}
-use Rattle.cell_nursery.proofs.ItemLaws.{fits_item, fits-item}
+use Rattle.cell_nursery.proofs.ItemLaws.{fits-item}
+use Rattle.cell_nursery.specs.Held.{fits_item}
 use Rattle.slices.specs.ByteLaws.{U8, u8-drop, part-below, hash-below}
 use Rattle.delta_items.specs.Walk.{hash_in, idx_in, born_in, cell_len, insert_in, insert_len, inserts_in, inserts_fit, long_cell}
 use Rattle.delta_items.specs.WalkLaws.{fit-head, fit-tail}

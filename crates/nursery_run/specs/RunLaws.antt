@@ -15,10 +15,9 @@ use Rattle.cell_nursery.specs.Items.{Delta}
 use Rattle.cell_nursery.specs.Delta.{present, full, state_after}
 use Rattle.cell_nursery.specs.Layout.{record_of, entries_table, waiting_table, cells_table, room_of, state_of, delay_in_range, holds}
 use Rattle.cell_nursery.specs.Calls.{Changed, laid}
-use Rattle.cell_nursery.proofs.HashLaws.{U64}
-use Rattle.cell_nursery.proofs.ItemLaws.{fits_item}
-use Rattle.cell_nursery.proofs.LayoutLaws.{WellFormed, Held, held, number-entries, bytes_same, length-entries_table, length-waiting_table, length-cells_table, state_of-laid, holds-laid}
-use Rattle.cell_nursery.proofs.WaitLaws.{Absent, present-absent, first_absent, still-absent}
+use Rattle.cell_nursery.specs.Held.{U64, fits_item, WellFormed, Held, Absent}
+use Rattle.cell_nursery.proofs.LayoutLaws.{held, number-entries, bytes_same, length-entries_table, length-waiting_table, length-cells_table, state_of-laid, holds-laid}
+use Rattle.cell_nursery.proofs.WaitLaws.{present-absent, first_absent, still-absent}
 use Rattle.cell_nursery.proofs.EntryLaws.{well-insert, well-remove, number-insert-le, number-remove, bytes-insert-le, bytes-remove, well-after, InRoom, room_after}
 use Rattle.nursery_steps.specs.Steps.{left, Insertable}
 

@@ -19,8 +19,9 @@ use Rattle.cell_nursery.specs.declared.Nursery.{Nursery}
 use Rattle.cell_nursery.specs.Entries.{Entry, cell_bytes, insert}
 use Rattle.cell_nursery.specs.Layout.{HashWords, hash_words, entry_row, entry_row_of, waiting_row_of, record_of, entries_table, waiting_table, cells_table, room_of, entries_of, state_of}
 use Rattle.cell_nursery.specs.Calls.{laid}
-use Rattle.cell_nursery.proofs.HashLaws.{words-hash, U64}
-use Rattle.cell_nursery.proofs.LayoutLaws.{Held, held, number-entries, number-waiting, entries-keys, bytes_same}
+use Rattle.cell_nursery.proofs.HashLaws.{words-hash}
+use Rattle.cell_nursery.specs.Held.{U64, Held}
+use Rattle.cell_nursery.proofs.LayoutLaws.{held, number-entries, number-waiting, entries-keys, bytes_same}
 use Rattle.cell_nursery.proofs.EntryLaws.{number-insert, bytes-insert, waiting-insert}
 use Rattle.cell_nursery.proofs.StepLaws.{bytes_before, bytes-append, place_at, place_end, entries-inserted, cells-inserted, waiting-inserted}
 use Rattle.cell_nursery.specs.Rows.{later}

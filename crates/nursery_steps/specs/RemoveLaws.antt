@@ -16,8 +16,8 @@ use Rattle.cell_nursery.specs.declared.Nursery.{Nursery}
 use Rattle.cell_nursery.specs.Entries.{Entry, cell_bytes, remove}
 use Rattle.cell_nursery.specs.Layout.{entry_row, entry_of, waiting_row, waiting_row_of, entry_rows, cells_of, record_of, entries_table, waiting_table, cells_table, entries_of, waiting_of, state_of, holds}
 use Rattle.cell_nursery.specs.Calls.{laid}
-use Rattle.cell_nursery.proofs.HashLaws.{U64}
-use Rattle.cell_nursery.proofs.LayoutLaws.{Held, held, number-entries, entries-keys, bytes_same}
+use Rattle.cell_nursery.specs.Held.{U64, Held}
+use Rattle.cell_nursery.proofs.LayoutLaws.{held, number-entries, entries-keys, bytes_same}
 use Rattle.cell_nursery.proofs.StepLaws.{bytes_before, bytes-append, place_at, len-at, entries-hit, rows-kept, key-absent, entries-left, entries-removed, cells-removed, waiting-removed}
 use Rattle.cell_nursery.specs.Rows.{earlier}
 use Rattle.nursery_rows.specs.Rows.{other}

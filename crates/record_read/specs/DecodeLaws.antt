@@ -18,10 +18,10 @@ use Rattle.cell_nursery.specs.Items.{delta_of}
 use Rattle.delta_items.specs.Walk.{inserts_in, inserts_len, items_fit, delta_in}
 use Rattle.delta_items.specs.WalkLaws.{delta-whole, delta-none, fit-inserts, cells_left, length-inserts, length-hashes}
 use Rattle.format.specs.declared.Decoded.{Decoded}
-use Rattle.format.specs.Record.{Decoding, parse, stats_of, used_bytes, leftover, decode}
+use Rattle.format.specs.Record.{Decoding, parse, stats_of, used_bytes, leftover, decode, stated, Whole, Matches}
 use Rattle.format.specs.Calls.{no_stats, decoded_of, parse_call, decode_call}
 use Rattle.format.proofs.ExactLaws.{parsed}
-use Rattle.format.proofs.RefusalLaws.{stated, Whole, Matches, payload-short, payload-past, payload-items}
+use Rattle.format.proofs.RefusalLaws.{payload-short, payload-past, payload-items}
 use Rattle.record_read.specs.declared.Framed.TheVariants.{Len}
 use Rattle.record_read.specs.Judged.{decoding_of, payload_call, exact_call, Framing}
 

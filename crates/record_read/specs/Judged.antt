@@ -6,9 +6,8 @@ use Rattle.base.specs.Answers.{refused, taken, ◌>>=◌, or_refuse}
 use Rattle.base.specs.declared.Refusal.TheVariants.{Misfit, Leftover}
 use Rattle.format.specs.declared.Decoded.{Decoded}
 use Rattle.format.specs.Payload.{Payload, payload_of}
-use Rattle.format.specs.Record.{Decoding, stats_of, leftover}
+use Rattle.format.specs.Record.{Decoding, stats_of, leftover, stated, Whole}
 use Rattle.format.specs.Calls.{decoded_of, parse_call}
-use Rattle.format.proofs.RefusalLaws.{stated, Whole}
 use Rattle.record_read.specs.declared.Framed.{Framed}
 use Rattle.record_read.specs.declared.Framed.TheVariants.{Len, Refused}
 

@@ -21,7 +21,7 @@ use Rattle.cell_nursery.specs.Items.{delta_of}
 use Rattle.cell_nursery.specs.Delta.{apply_delta}
 use Rattle.cell_nursery.specs.Drain.{drained, drain_bytes, lookup, listing_bytes}
 use Rattle.cell_nursery.specs.Layout.{room_of, record_of, state_of, entries_of, delay_in_range, holds, holds_entries, holds_cells}
-use Rattle.cell_nursery.proofs.HashLaws.{U64}
+use Rattle.cell_nursery.specs.Held.{U64}
 use Rattle.cell_nursery.proofs.SettingLaws as settings
 use Rattle.cell_nursery.proofs.SettingLaws.{new-taken, new-bad, new-setting, new-numbers, new-refused, delta-delay}
 use Rattle.cell_nursery.specs.Calls.{Changed, length_width, on_state, laid, laid_out, new_call, delta_call, drained_out, drain_call, found_of, lookup_call, cell_at, data_of, data_call, listing_call}

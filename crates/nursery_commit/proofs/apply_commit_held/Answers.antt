@@ -6,9 +6,8 @@ use Rattle.cell_nursery.specs.declared.Committed.{Committed}
 use Rattle.cell_nursery.specs.Delta.{too_long, present, full}
 use Rattle.cell_nursery.specs.Layout.{room_of, state_of}
 use Rattle.cell_nursery.specs.Calls.{effect, length_width}
-use Rattle.cell_nursery.proofs.HashLaws.{U64}
-use Rattle.cell_nursery.proofs.ItemLaws.{fits_item}
-use Rattle.cell_nursery.proofs.LayoutLaws.{Held, held}
+use Rattle.cell_nursery.specs.Held.{U64, fits_item, Held}
+use Rattle.cell_nursery.proofs.LayoutLaws.{held}
 use Rattle.delta_items.specs.Walk.{inserts_len, items_fit, delta_in}
 use Rattle.delta_items.specs.WalkLaws.{removes-at, removes-past, fit-inserts}
 use Rattle.slices.specs.ByteLaws.{U8}

@@ -2,8 +2,8 @@
 -- Assumes nothing.
 use Rattle.cell_nursery.proofs.PrefixLaws.{due-within, drain-full, drain-done}
 use Rattle.cell_nursery.specs.Rows.{handed_out}
-use Rattle.cell_nursery.proofs.LayoutLaws.{Held, held}
-use Rattle.cell_nursery.proofs.HashLaws.{U64}
+use Rattle.cell_nursery.proofs.LayoutLaws.{held}
+use Rattle.cell_nursery.specs.Held.{Held, U64}
 use Rattle.cell_nursery.specs.Layout.{entries_of, waiting_of}
 use Rattle.base.specs.Logic.{flat}
 use borrow.Author.Tests.{leb-true, leb-false}

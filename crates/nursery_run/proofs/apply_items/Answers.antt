@@ -3,7 +3,7 @@
 use borrow.Author.Rules.{rules}
 use native.Mathlib.Omega.{arith}
 use Rattle.cell_nursery.specs.Calls.{length_width}
-use Rattle.cell_nursery.proofs.HashLaws.{U64}
+use Rattle.cell_nursery.specs.Held.{U64}
 use Rattle.delta_items.specs.Walk.{delta_in}
 use Rattle.delta_items.specs.WalkLaws.{fit-inserts, fit-removes}
 use Rattle.nursery_run.specs.RunLaws.{ready-start, held-mid, delta-done}

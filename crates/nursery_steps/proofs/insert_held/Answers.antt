@@ -3,8 +3,7 @@ use Rattle.slices.specs.Laws.{length_part}
 use Rattle.rows.specs.Keys.{keys, first_four}
 use Rattle.rows.specs.Wide.{key_of}
 use Rattle.rows.proofs.WideLaws.{Words}
-use Rattle.cell_nursery.proofs.HashLaws.{U64}
-use Rattle.cell_nursery.proofs.LayoutLaws.{Held}
+use Rattle.cell_nursery.specs.Held.{U64, Held}
 use Rattle.nursery_steps.specs.Steps.{new_entry}
 use Rattle.nursery_steps.specs.InsertLaws.{all_held, entry-room, waiting-room, cell_room, place_inside, row_inside, place-small, insert-done}
 use mathlib.Core.Path.{◌≡◌}

@@ -1,8 +1,8 @@
 use Rattle.base.specs.Laws.{ascending-sorted}
 use Rattle.rows.specs.Keys.{keys, first_four}
 use Rattle.rows.specs.Wide.{key_of}
-use Rattle.cell_nursery.proofs.HashLaws.{U64}
-use Rattle.cell_nursery.proofs.LayoutLaws.{Held, held}
+use Rattle.cell_nursery.specs.Held.{U64, Held}
+use Rattle.cell_nursery.proofs.LayoutLaws.{held}
 use Rattle.nursery_steps.specs.RemoveLaws.{absent-left, row-hit, places_behind, cell-inside, hit-left}
 use mathlib.Core.Path.{refl, sym, ◌∙◌}
 use Prim.Native.Nat.{◌+◌, ◌*◌, ◌≤◌, ◌<◌}
