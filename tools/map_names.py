@@ -107,7 +107,7 @@ def known(name):
 
 
 # of the original and of the language, not of this tree
-WORDS = {"hash_key", "io::Read", "RecordStats", 'extern "C"', "&mut CounterMaintenance", "selvaigo_", "Got.count", "Found.idx", "CRATE/EDIT", "crate Module.name", "crate::function", "crates/*/specs", "Inv-loop", "step", "Order", "Layouts", "Rules", "Worked", "Lines"}
+WORDS = {"hash_key", "io::Read", "RecordStats", 'extern "C"', "&mut CounterMaintenance", "selvaigo_", "Got.count", "Found.idx", "CRATE/EDIT", "crate Module.name", "crate::function", "crates/*/specs", "invariant-loop-k", "step", "Order", "Layouts", "Rules", "Worked", "Lines"}
 
 
 def cells(line):
