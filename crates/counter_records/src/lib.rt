@@ -1,5 +1,5 @@
-// A batch that is lent as a slice of records. `apply_batch` only walks over the records, since what takes such a slice is proved by
-// hand; all work is done by functions on a record's index, old and new (`counter_walk`), which are told where the walk is by what it holds.
+// A batch that is lent as a slice of records. `apply_batch` only walks over the records; all work is done by functions on a record's
+// index, old and new (`counter_walk`), which are told where the walk is by what it holds.
 #![tactic(auto)]
 
 ghost use Rattle.std.specs.Prelude.{◌≡◌};
