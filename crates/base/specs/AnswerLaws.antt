@@ -8,11 +8,9 @@ use Rattle.std.proofs.Math.Option.{Option, none, some}
 use mathlib.Core.List.{List, [], ◌∷◌}
 use Rattle.base.specs.Logic.{pick, any, elem}
 use Rattle.base.specs.ListLaws.{ltb-lt}
-use Rattle.base.specs.Answers.{Outcome, refused, taken, ◌>>=◌, ◌>>◌, refuse_if, or_refuse, either, answer_of, number_of, answer_number}
+use Rattle.base.specs.Answers.{Outcome, refused, taken, ◌>>=◌, ◌>>◌, refuse_if, or_refuse, either, answer_of, number_of, answer_number, Answer, Taken, Refused}
 use Rattle.base.specs.OutcomeLaws.{answer-refused, other-number, taken_refused, ends-here, ends-later, Refuses, refuses-none, refuses-step}
 use Rattle.base.specs.Output.{fitting}
-use Rattle.base.specs.declared.Answer.{Answer}
-use Rattle.base.specs.declared.Answer.TheVariants.{Taken, Refused}
 use Rattle.base.specs.declared.Refusal.{Refusal}
 use Rattle.base.specs.declared.Refusal.TheVariants.{OutputFull, Broken}
 

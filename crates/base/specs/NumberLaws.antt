@@ -5,7 +5,7 @@ use Rattle.std.proofs.Common.{mul-suc, mul-add, mul_assoc, mul-le-mul_left, mod-
 use Rattle.std.proofs.Math.Nat.{pow-succ', pow-zero}
 use Rattle.base.specs.Logic.{all}
 use Rattle.base.specs.Bytes.{digits, number}
-use Rattle.base.specs.Laws.{and_left, and_right, and_both}
+use Rattle.base.specs.Laws.{and_left, and_right}
 
 -- k digits spell a number below b ^ k
 pub number-below : (b : ℕ) (xs : List ℕ) → all (λ x. ltb x b) xs ≡ true → number b xs < b ^ length xs

@@ -5,9 +5,8 @@ use Rattle.std.proofs.Common.{sym, ap, ◌∙◌, arith, eq-eqb}
 use Rattle.std.proofs.Math.Bool.{true, false, or-true}
 use Rattle.std.proofs.lemmas.Bool.{false≢true}
 use Rattle.base.specs.Logic.{any, elem}
-use Rattle.base.specs.Answers.{Outcome, refused, taken, ◌>>=◌, ◌>>◌, refuse_if, number_of, either, answer_of}
+use Rattle.base.specs.Answers.{Outcome, refused, taken, ◌>>=◌, ◌>>◌, refuse_if, number_of, either, answer_of, Refused}
 use Rattle.base.specs.declared.Refusal.{Refusal}
-use Rattle.base.specs.declared.Answer.TheVariants.{Refused}
 
 -- an element of two lists together
 elem-front : (n : ℕ) (ns ms : List ℕ) → elem n ns ≡ true → elem n (ns ++ ms) ≡ true

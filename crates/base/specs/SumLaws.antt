@@ -2,11 +2,10 @@
 -- Assumes nothing.
 use Rattle.std.specs.Prelude.{◌≡◌, Bool, ◌||◌, length, leb, ltb}
 use Rattle.std.proofs.Math.Path.{refl, sym, ap, ap₂}
-use Rattle.std.proofs.Common.{◌∙◌, mul-zero, mul-suc, mul-add, mul_assoc, mul-le-mul_left, mod-lt, ltb-true, leb-true, lt-ltb, le-leb}
+use Rattle.std.proofs.Common.{◌∙◌, mul-zero, ltb-true, leb-true, le-leb}
 use Rattle.std.proofs.Math.Bool.{true, false, not}
 use mathlib.Core.List.{List, [], ◌∷◌, ◌++◌, map}
-use Prim.Native.Nat.{ℕ, zero, suc, ◌+◌, ◌-◌, ◌*◌, ◌/◌, ◌%◌, ◌^◌, ◌≤◌, ◌<◌}
-use Rattle.std.proofs.Math.Nat.{pow-succ', pow-zero}
+use Prim.Native.Nat.{ℕ, suc, ◌+◌, ◌-◌, ◌*◌, ◌≤◌, ◌<◌}
 use native.Mathlib.Omega.{arith}
 use Rattle.base.specs.Logic.{pick, all, keep, flat, sum_of, ascending_from, sorted_from}
 use Rattle.base.specs.Laws.{and_left, and_right, and_both, sorted_head, sorted_tail, sorted-lower, ascending-head, ascending-tail, ascending-lower}

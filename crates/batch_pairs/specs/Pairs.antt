@@ -3,7 +3,7 @@
 use Rattle.std.specs.Prelude.{◌≡◌, List, map, ℕ}
 use Rattle.std.proofs.Math.Option.{some}
 use mathlib.Core.List.{Permᴰ as Reordered}
-use Rattle.base.specs.declared.Answer.TheVariants.{Taken}
+use Rattle.base.specs.Answers.{Taken}
 use Rattle.counters.specs.declared.CounterTransition.{CounterTransition}
 use Rattle.counters.specs.Batch.{kept}
 use Rattle.counters.specs.Layout.{with_maintenance, batch_of}

@@ -8,9 +8,7 @@ use Rattle.std.proofs.lemmas.List.{length-replicate}
 use Rattle.base.specs.Logic.{pick, all, any, elem, zeros}
 use Rattle.base.specs.Laws.{and_both}
 use Rattle.base.specs.ListLaws.{all_drop}
-use Rattle.base.specs.Answers.{answer_number, number_of}
-use Rattle.base.specs.declared.Answer.{Answer}
-use Rattle.base.specs.declared.Answer.TheVariants.{Taken, Refused}
+use Rattle.base.specs.Answers.{answer_number, number_of, Answer, Taken, Refused}
 use Rattle.base.specs.declared.Refusal.TheVariants.{OutputFull}
 use Rattle.base.specs.MaybeLaws.{Gives, gives}
 use Rattle.base.specs.SpellLaws.{Bytes}

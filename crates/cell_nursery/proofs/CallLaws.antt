@@ -8,10 +8,9 @@ use Rattle.std.proofs.Common.{true≢false}
 use Rattle.std.proofs.Math.Option.{Option, none, some}
 use Rattle.base.specs.Logic.{any}
 use Rattle.base.specs.Laws.{and_left, and_right, and_both}
-use Rattle.base.specs.Answers.{Outcome, refused, taken, ◌>>=◌, ◌>>◌, refuse_if, or_refuse, answer_of, number_of}
+use Rattle.base.specs.Answers.{Outcome, refused, taken, ◌>>=◌, ◌>>◌, refuse_if, or_refuse, answer_of, number_of, Refused}
 use Rattle.base.specs.OutcomeLaws.{ends-here, taken_refused, Refuses, refuses-none, refuses-step}
 use Rattle.base.specs.Output.{fitting, put, written}
-use Rattle.base.specs.declared.Answer.TheVariants.{Refused}
 use Rattle.base.specs.declared.Refusal.{Refusal}
 use Rattle.base.specs.declared.Refusal.TheVariants.{OutputFull, Broken}
 use Rattle.cell_nursery.specs.declared.Nursery.{Nursery}

@@ -1,6 +1,6 @@
 -- A hash, its four words and its 32 bytes: each gives the others back.
 -- Assumes nothing.
-use Rattle.std.specs.Prelude.{◌≡◌, refl, true, List, [], ◌∷◌, ◌++◌, reverse, ℕ, ◌+◌, ◌/◌, ◌%◌, ◌^◌, ◌≤◌, ◌<◌, length, drop, get_or, ltb}
+use Rattle.std.specs.Prelude.{◌≡◌, refl, true, List, [], ◌∷◌, ◌++◌, reverse, ℕ, ◌+◌, ◌/◌, ◌%◌, ◌^◌, ◌<◌, length, drop, get_or, ltb}
 use Rattle.std.proofs.Common.{ap, ◌∙◌, append_assoc, arith, length-append, get_or-drop}
 use Rattle.std.proofs.lemmas.List.{reverse-append, length-reverse}
 use Rattle.std.proofs.Math.Nat.{div-one, div-div-eq-div-mul}

@@ -1,6 +1,6 @@
 -- A record and tables hold a state exactly when they are the record and the tables of one: `held` and `holds-laid`.
 -- Assumes nothing.
-use Rattle.std.specs.Prelude.{◌≡◌, refl, Bool, ◌&&◌, ℕ, zero, suc, ◌+◌, ◌-◌, ◌*◌, ◌/◌, ◌^◌, ◌≤◌, min, length, take, drop, ltb, eqb}
+use Rattle.std.specs.Prelude.{◌≡◌, refl, ◌&&◌, ℕ, zero, suc, ◌+◌, ◌-◌, ◌/◌, ◌^◌, ◌≤◌, min, length, take, drop, ltb, eqb}
 use Rattle.std.proofs.Math.Path.{sym, ap}
 use Rattle.std.proofs.Common.{◌∙◌, arith, length-append, length-take, length-drop, take-append-drop, take_at, take-add, drop-drop, length-take-le}
 use Rattle.std.proofs.Math.Bool.{true}
@@ -13,13 +13,13 @@ use Rattle.std.proofs.Math.Dec.{leb}
 use borrow.Author.Tests.{le-leb, leb-true, eqb-true, eq-eqb, lt-ltb, ltb-true}
 use Rattle.base.specs.Logic.{all, flat, sum_of, zeros, ascending, sorted_from}
 use Rattle.base.specs.Laws.{and_left, and_right, and_both, zeros-all_zero, all_zero-zeros}
-use Rattle.rows.specs.Table.{rows_of, holds_rows, Laid}
+use Rattle.rows.specs.Table.{rows_of, holds_rows}
 use Rattle.rows.specs.Keys.{first_word, first_four, keys}
 use Rattle.rows.proofs.TableLaws as rows
 use Rattle.rows.proofs.TableLaws.{length-rows_of, table-rows_of}
 use Rattle.rows.proofs.KeyLaws.{keys-rows_of}
 use Rattle.cell_nursery.specs.declared.Nursery.{Nursery}
-use Rattle.cell_nursery.specs.Entries.{Entry, Waiting, State, tied, cell_bytes}
+use Rattle.cell_nursery.specs.Entries.{Entry, Waiting, State, cell_bytes}
 use Rattle.cell_nursery.specs.Layout.{hash_of, hash_at, EntryRow, entry_row, waiting_row, entry_of, waiting_row_of, waiter_of, entry_rows, cells_of, record_of, entries_table, waiting_table, cells_table, room_of, entries_of, waiting_of, state_of, end_to_end, in_bounds, by_hash, by_round, delay_in_range, holds_entries, holds_waiting, holds_cells, holds}
 use Rattle.cell_nursery.proofs.CodingLaws.{entry-lawful, waiting-lawful}
 use Rattle.base.specs.ListLaws.{all_weaker}

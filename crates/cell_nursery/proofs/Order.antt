@@ -9,8 +9,7 @@ use Rattle.std.proofs.Math.Option.{Option, some}
 use Rattle.base.specs.Logic.{any, fold, zeros}
 use Rattle.base.specs.Bytes.{le32, le64, cut, read_list}
 use Rattle.base.specs.Laws.{read_le-append}
-use Rattle.base.specs.Answers.{answer_number, answer_of, or_refuse, ◌>>=◌}
-use Rattle.base.specs.declared.Answer.TheVariants.{Taken, Refused}
+use Rattle.base.specs.Answers.{answer_number, answer_of, or_refuse, ◌>>=◌, Taken, Refused}
 use Rattle.base.specs.declared.Refusal.TheVariants.{Present, OutputFull, Broken, BadSetting}
 use Rattle.cell_nursery.specs.declared.Nursery.{Nursery}
 use Rattle.cell_nursery.specs.Entries.{Entry, State, empty, hash_bytes, insert, remove}

@@ -11,7 +11,7 @@ use Rattle.base.specs.Logic.{all, flat, sum_of, overlay}
 use Rattle.base.specs.Bytes.{le16, le32, le64}
 use Rattle.base.specs.Output.{effect, fitting, put, written}
 use Rattle.base.specs.Laws.{and_left, and_right, flat_append, length_digits}
-use Rattle.base.specs.declared.Answer.TheVariants.{Taken, Refused}
+use Rattle.base.specs.Answers.{Taken, Refused}
 use Rattle.base.specs.declared.Refusal.TheVariants.{Broken, OutputFull}
 use Rattle.slices.specs.Laws.{length_part, paste-append, paste-start, part-lent}
 use Rattle.rows.specs.Table.{rows_of}

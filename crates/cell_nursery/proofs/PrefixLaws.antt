@@ -14,14 +14,14 @@ use borrow.Author.Tests.{lt-ltb, le-ltb, eq-eqb, ne_eqb}
 use Rattle.base.specs.Logic.{pick, keep, elem, flat, overlay, zeros, ascending, sorted_from}
 use Rattle.base.specs.Output.{fitting}
 use Rattle.base.specs.Laws.{flat_append}
-use Rattle.base.specs.declared.Answer.TheVariants.{Taken, Refused}
+use Rattle.base.specs.Answers.{Taken, Refused}
 use Rattle.base.specs.declared.Refusal.TheVariants.{Broken, OutputFull}
 use Rattle.rows.specs.Table.{rows_of, table_of}
 use Rattle.rows.proofs.TableLaws.{row_at, length-rows_of, drop-rows_of, words-rows_of}
 use Rattle.rows.specs.Keys.{first_word, first_four, keys, place}
 use Rattle.rows.proofs.KeyLaws.{length-keys, place-le}
 use Rattle.cell_nursery.specs.declared.Nursery.{Nursery}
-use Rattle.cell_nursery.specs.Entries.{Entry, Waiting}
+use Rattle.cell_nursery.specs.Entries.{Waiting}
 use Rattle.cell_nursery.specs.Drain.{due, named, promoted, drained, promoted_bytes, drain_bytes}
 use Rattle.cell_nursery.specs.Layout.{hash_of, hash_at, WaitingRow, waiting_row, entry_of, waiting_row_of, waiter_of, record_of, waiting_table, entries_of, waiting_of, state_of, holds}
 use Rattle.cell_nursery.specs.Calls.{on_state, drain_effect, drained_out, drain_call}

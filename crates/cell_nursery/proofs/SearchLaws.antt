@@ -7,11 +7,11 @@ use Rattle.std.proofs.Math.Option.{none, some}
 use mathlib.Core.List.{List, [], ◌∷◌, ◌++◌, map, append_assoc}
 use Rattle.std.proofs.Math.Decide.{dec_lt, ℕ_discrete}
 use Rattle.std.proofs.lemmas.Bool.{eqb-false}
-use Rattle.base.specs.Logic.{pick, any, elem, flat, sorted_from}
+use Rattle.base.specs.Logic.{any, elem, flat, sorted_from}
 use Rattle.base.specs.Maybe.{maybe}
 use Rattle.base.specs.Laws.{and_left, and_right, ascending-sorted}
 use Rattle.base.specs.SumLaws.{or_left, or_right}
-use Rattle.base.specs.declared.Answer.TheVariants.{Taken, Refused}
+use Rattle.base.specs.Answers.{Taken, Refused}
 use Rattle.base.specs.declared.Refusal.TheVariants.{Broken}
 use Rattle.slices.specs.Laws.{length_part}
 use Rattle.rows.specs.Table.{rows_of}

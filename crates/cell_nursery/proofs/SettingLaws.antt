@@ -5,10 +5,9 @@ use Rattle.std.proofs.Common.{inl, inr, arith, leb-true, leb-false, le-leb}
 use Rattle.std.proofs.Math.Bool.{true, false}
 use Rattle.std.proofs.lemmas.Bool.{lt-leb}
 use Rattle.base.specs.Laws.{and_left, and_right, and_both}
-use Rattle.base.specs.Answers.{Outcome, refused, taken, ◌>>=◌, ◌>>◌, refuse_if, or_refuse, answer_of}
+use Rattle.base.specs.Answers.{Outcome, refused, taken, ◌>>=◌, ◌>>◌, refuse_if, or_refuse, answer_of, Refused}
 use Rattle.base.specs.OutcomeLaws.{ends-here, taken_refused, refuses-none, refuses-step}
 use Rattle.base.specs.Output.{fitting}
-use Rattle.base.specs.declared.Answer.TheVariants.{Refused}
 use Rattle.base.specs.declared.Refusal.{Refusal}
 use Rattle.base.specs.declared.Refusal.TheVariants.{BadSetting, Broken}
 use Rattle.base.specs.AnswerLaws.{not_test, and-fails, exactly, not-refused, Answers, says, says-numbers}

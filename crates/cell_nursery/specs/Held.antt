@@ -1,12 +1,12 @@
 -- What is required of the lent tables, a fact for each part and the whole, and of the states, entries and waiting rows in them.
 -- Assumes nothing.
-use Rattle.std.specs.Prelude.{◌≡◌, Bool, true, false, ◌&&◌, List, map, ℕ, ◌-◌, ◌*◌, ◌/◌, ◌^◌, ◌≤◌, ◌<◌, min, length, take, drop, get_or, eqb, leb, ltb}
+use Rattle.std.specs.Prelude.{◌≡◌, Bool, true, false, ◌&&◌, List, map, ℕ, ◌-◌, ◌*◌, ◌/◌, ◌^◌, ◌≤◌, ◌<◌, min, length, take, drop, get_or, leb, ltb}
 use Rattle.base.specs.Logic.{all, any, elem, repeated, keep, flat, zeros, ascending, sorted_from}
 use Rattle.rows.specs.Table.{rows_of, Laid}
 use Rattle.rows.specs.Keys.{first_word, first_four, keys}
 use Rattle.cell_nursery.specs.declared.Nursery.{Nursery}
 use Rattle.cell_nursery.specs.Entries.{Entry, Waiting, State, tied}
-use Rattle.cell_nursery.specs.Layout.{EntryRow, entry_row, WaitingRow, waiting_row, record_of, entries_table, waiting_table, cells_table, state_of, end_to_end, in_bounds, delay_in_range}
+use Rattle.cell_nursery.specs.Layout.{entry_row, WaitingRow, waiting_row, record_of, entries_table, waiting_table, cells_table, state_of, end_to_end, in_bounds, delay_in_range}
 
 -- what each table's test says, for a `requires`
 module _ (r : Nursery) (t : List ℕ) where

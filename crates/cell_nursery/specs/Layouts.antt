@@ -2,7 +2,7 @@
 -- Assumes nothing.
 use Rattle.std.specs.Prelude.{◌≡◌, refl, ℕ, ◌+◌, ◌*◌, ◌^◌, true, List, [], ◌∷◌, ◌++◌}
 use Rattle.base.specs.Logic.{fold, zeros}
-use Rattle.base.specs.declared.Answer.TheVariants.{Taken}
+use Rattle.base.specs.Answers.{Taken}
 use Rattle.cell_nursery.specs.Entries.{Entry, State, empty, insert}
 use Rattle.cell_nursery.specs.Items.{item_bytes}
 use Rattle.cell_nursery.specs.Drain.{promotion_delay, promoted, drain_bytes, listing_bytes}

@@ -1,6 +1,6 @@
 -- Rows of the lent tables and their parts, as the contracts of the calls' parts name them.
 -- Assumes nothing.
-use Rattle.std.specs.Prelude.{◌≡◌, Bool, ◌&&◌, List, [], ◌∷◌, ◌++◌, map, ℕ, suc, ◌+◌, ◌-◌, ◌*◌, ◌^◌, ◌≤◌, ◌<◌, length, take, drop, get_or, eqb, ltb}
+use Rattle.std.specs.Prelude.{Bool, ◌&&◌, List, [], ◌∷◌, ◌++◌, map, ℕ, suc, ◌+◌, ◌-◌, ◌*◌, ◌^◌, ◌≤◌, ◌<◌, length, take, drop, get_or, eqb, ltb}
 use Rattle.base.specs.Logic.{pick, all, flat, sorted_from}
 use Rattle.base.specs.Bytes.{le16, le64}
 use Rattle.rows.specs.Keys.{first_four, keys}

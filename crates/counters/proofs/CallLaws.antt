@@ -10,17 +10,16 @@ use Rattle.std.proofs.Math.Decide.{dec_le}
 use Rattle.std.proofs.Math.ListN.{length}
 use borrow.Author.Tests.{le-leb, lt-leb, eqb-true, eqb-false}
 use Rattle.base.specs.Logic.{all, any, elem, ascending_from}
-use Rattle.base.specs.Answers.{Outcome, refused, taken, ◌>>=◌, ◌>>◌, refuse_if, or_refuse, answer_of, value_or, number_of}
+use Rattle.base.specs.Answers.{Outcome, refused, taken, ◌>>=◌, ◌>>◌, refuse_if, or_refuse, answer_of, value_or, number_of, Taken, Refused}
 use Rattle.base.specs.AnswerLaws.{not-refused}
 use Rattle.base.specs.declared.Refusal.{Refusal}
 use Rattle.base.specs.declared.Refusal.TheVariants.{Broken, BadSetting}
-use Rattle.base.specs.declared.Answer.TheVariants.{Taken, Refused}
 use Rattle.rows.specs.Table.{rows_of}
 use Rattle.rows.proofs.TableLaws.{laid-holds}
 use Rattle.counters.specs.declared.ShrinkSettings.{ShrinkSettings}
 use Rattle.counters.specs.declared.Counters.{Counters}
 use Rattle.counters.specs.declared.CounterTransition.{CounterTransition}
-use Rattle.counters.specs.declared.Shrunk.{Shrunk}
+use Rattle.counters.specs.Returned.{ShrunkAnswer}
 use Rattle.counters.specs.declared.NextIdx.{NextIdx}
 use Rattle.counters.specs.declared.Idx.{Idx}
 use Rattle.counters.specs.Counts.{State, fresh, allocate, get}
@@ -431,14 +430,14 @@ module _ (c : Counters) (t : List ℕ) (saved : ℕ) where
   -- whatever the answer, they hold a state after it
   pub shrink-holds : holds c t ≡ true → holds (shrink_call c t saved).counters t ≡ true
   unfolding decided holds with_maintenance
-  shrink-holds h = ap (λ (r : Shrunk). holds r.counters t) (shrink-held h) ∙ h
+  shrink-holds h = ap (λ (r : ShrunkAnswer). holds r.counters t) (shrink-held h) ∙ h
 
   -- only maintenance changes
   pub shrink-state : holds c t ≡ true
       → state_of (shrink_call c t saved).counters t
       ≡ record { next = (state_of c t).next; live = (state_of c t).live; counts = (state_of c t).counts; maintenance = shrunk c.settings saved (decide (state_of c t)) (state_of c t).maintenance }
   unfolding decided state_of with_maintenance
-  shrink-state h = ap (λ (r : Shrunk). state_of r.counters t) (shrink-held h)
+  shrink-state h = ap (λ (r : ShrunkAnswer). state_of r.counters t) (shrink-held h)
 
   -- the settings stay, whatever the answer
   pub shrink-settings : (shrink_call c t saved).counters.settings ≡ c.settings

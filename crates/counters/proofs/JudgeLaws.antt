@@ -7,9 +7,8 @@ use Rattle.std.proofs.Math.ListN.{length}
 use borrow.Author.Tests.{eq-eqb, ne_eqb, ltb-false}
 use Rattle.base.specs.Logic.{any, keep, repeated, max64}
 use Rattle.base.specs.SumLaws.{length-keep}
-use Rattle.base.specs.Answers.{refused, taken}
+use Rattle.base.specs.Answers.{refused, taken, Taken, Refused}
 use Rattle.base.specs.declared.Refusal.{Refusal}
-use Rattle.base.specs.declared.Answer.TheVariants.{Taken, Refused}
 use Rattle.base.specs.declared.Refusal.TheVariants.{Unallocated, Repeated, OffTotal, FalseOld, TableFull, Broken, FewCells}
 use Rattle.rows.specs.Table.{rows_of}
 use Rattle.rows.proofs.TableLaws.{length-rows_of}

@@ -11,7 +11,7 @@ use Rattle.std.proofs.Math.Seq.{drop-length}
 use borrow.Author.Tests.{le-leb, lt-leb, lt-ltb, le-ltb, eq-eqb, ne_eqb}
 use Rattle.base.specs.Logic.{pick, keep}
 use Rattle.base.specs.ListLaws.{length-keep}
-use Rattle.base.specs.declared.Answer.TheVariants.{Taken, Refused}
+use Rattle.base.specs.Answers.{Taken, Refused}
 use Rattle.base.specs.declared.Refusal.TheVariants.{Broken}
 use Rattle.rows.specs.Table.{rows_of}
 use Rattle.rows.proofs.TableLaws.{length-rows_of}

@@ -10,7 +10,7 @@ use Rattle.std.proofs.Math.Seq.{take-length}
 use Rattle.base.specs.Logic.{flat}
 use Rattle.rows.specs.Table.{rows_of}
 use Rattle.rows.proofs.TableLaws.{length-words, words-rows_of, rows_of-words}
-use Rattle.counters.specs.declared.Applied.{Applied}
+use Rattle.counters.specs.Returned.{Applied}
 use Rattle.counters.specs.declared.Counters.{Counters}
 use Rattle.counters.specs.declared.CounterTransition.{CounterTransition}
 use Rattle.counters.specs.Batch.{apply_batch}

@@ -4,8 +4,7 @@
 -- Assumes nothing.
 use Rattle.std.specs.Prelude.{◌≡◌, refl, ℕ, ◌-◌, ◌^◌, true, false, List, [], ◌∷◌, replicate}
 use Rattle.base.specs.Logic.{max64, zeros}
-use Rattle.base.specs.Answers.{answer_number}
-use Rattle.base.specs.declared.Answer.TheVariants.{Taken, Refused}
+use Rattle.base.specs.Answers.{answer_number, Taken, Refused}
 use Rattle.base.specs.declared.Refusal.TheVariants.{Spent, Unallocated, FalseOld, Broken, BadSetting}
 use Rattle.counters.specs.declared.CounterMaintenance.{CounterMaintenance}
 use Rattle.counters.specs.declared.ShrinkSettings.{ShrinkSettings}

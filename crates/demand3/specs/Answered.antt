@@ -6,13 +6,11 @@ use Rattle.std.proofs.Common.{◌∙◌}
 use Rattle.std.proofs.Math.Option.{Option, none, some}
 use Rattle.std.proofs.Math.ListN.{length-replicate}
 use Rattle.base.specs.Logic.{zeros}
-use Rattle.base.specs.Answers.{Outcome, refused, taken, ◌>>=◌, or_refuse, answer_of}
+use Rattle.base.specs.Answers.{Outcome, refused, taken, ◌>>=◌, or_refuse, answer_of, Answer, Taken}
 use Rattle.base.specs.Output.{fitting, put, written}
-use Rattle.base.specs.declared.Answer.{Answer}
-use Rattle.base.specs.declared.Answer.TheVariants.{Taken}
 use Rattle.base.specs.declared.Refusal.TheVariants.{Broken}
 use Rattle.counters.specs.declared.Counters.{Counters}
-use Rattle.counters.specs.declared.Shrunk.{Shrunk}
+use Rattle.counters.specs.Returned.{ShrunkAnswer}
 use Rattle.counters.specs.Counts as counts
 use Rattle.counters.specs.Batch.{apply_batch}
 use Rattle.counters.specs.Layout.{record_of, batch_of}
@@ -96,7 +94,7 @@ module _ {z : Fixed} {b : Box} {c : counts.State} {n : entries.State} (h : Holds
   answer-is (drain round out) =
       drain-says b.nursery b.waiting (zeros out) _ _ ∙ rw (nursery-holds h.nursery, nursery-state h.nursery, length-replicate {A = ℕ} out 0, delay-same h.nursery)
   answer-is (get idx) = rw (counters-hold h.counters, counters-state h.counters)
-  answer-is (shrink saved) = ap (λ (r : Shrunk). r.answer) (shrink-held b.counters b.counts saved (counters-hold h.counters))
+  answer-is (shrink saved) = ap (λ (r : ShrunkAnswer). r.answer) (shrink-held b.counters b.counts saved (counters-hold h.counters))
   answer-is (adjust saved) = refl
   answer-is measure = rw (counters-hold h.counters)
   answer-is (serialize out) = written-says out _ ∙ rw (counters-hold h.counters, counters-state h.counters)

@@ -5,8 +5,7 @@ use Rattle.std.specs.Prelude.{◌≡◌, refl, true, List, ℕ, ◌+◌, ◌/◌
 use Rattle.std.proofs.Math.Path.{ap, ap₂}
 use Rattle.std.proofs.Common.{◌∙◌, arith}
 use Rattle.base.specs.Logic.{all}
-use Rattle.base.specs.Answers.{taken}
-use Rattle.base.specs.declared.Answer.TheVariants.{Taken}
+use Rattle.base.specs.Answers.{taken, Taken}
 use Rattle.counters.specs.declared.ShrinkSettings.{ShrinkSettings}
 use Rattle.counters.specs.declared.Counters.{Counters}
 use Rattle.counters.specs.declared.CounterTransition.{CounterTransition}

@@ -11,9 +11,8 @@ use Rattle.base.specs.Logic.{keep, flat, sum_of, ascending_from}
 use Rattle.base.specs.Laws.{ascending-head, ascending-tail, length_digits}
 use Rattle.base.specs.ListLaws.{value-order, length-flat}
 use Rattle.base.specs.SumLaws.{sum-append, sum-keep, sum_of-flat, sum_of-map, sum_of-even, sum_of-same}
-use Rattle.base.specs.Answers.{taken}
+use Rattle.base.specs.Answers.{taken, Taken}
 use Rattle.base.specs.Output.{fitting}
-use Rattle.base.specs.declared.Answer.TheVariants.{Taken}
 use Rattle.counters.specs.Counts as counts
 use Rattle.cell_nursery.specs.Entries as entries
 use Rattle.cell_nursery.specs.Entries.{Entry, Waiting, State, names, tied, cell_bytes}

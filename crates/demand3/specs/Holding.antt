@@ -7,8 +7,7 @@ use Rattle.std.proofs.Common.{ap, ◌∙◌, true≢false, ltb-true}
 use Rattle.std.proofs.lemmas.Bool.{false≢true}
 use Rattle.base.specs.Logic.{all, zeros}
 use Rattle.base.specs.Laws.{and_left, and_right}
-use Rattle.base.specs.declared.Answer.{Answer}
-use Rattle.base.specs.declared.Answer.TheVariants.{Taken, Refused}
+use Rattle.base.specs.Answers.{Answer, Taken, Refused}
 use Rattle.base.specs.declared.Refusal.{Refusal}
 use Rattle.counters.specs.declared.ShrinkSettings.{ShrinkSettings}
 use Rattle.counters.specs.Counts as counts

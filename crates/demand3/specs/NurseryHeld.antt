@@ -5,10 +5,9 @@ use Rattle.std.specs.Prelude.{◌≡◌, Bool, true, List, ℕ, ◌/◌, ◌^◌
 use Rattle.std.proofs.Math.Path.{refl, ap}
 use Rattle.std.proofs.Common.{sym, ◌∙◌, arith}
 use Rattle.std.proofs.Math.Option.{Option, none, some}
-use Rattle.base.specs.Answers.{Outcome, refused, taken, ◌>>=◌, or_refuse}
+use Rattle.base.specs.Answers.{Outcome, refused, taken, ◌>>=◌, or_refuse, Taken, Refused}
 use Rattle.base.specs.AnswerLaws.{not-refused}
 use Rattle.base.specs.Output.{fitting}
-use Rattle.base.specs.declared.Answer.TheVariants.{Taken, Refused}
 use Rattle.base.specs.declared.Refusal.{Refusal}
 use Rattle.base.specs.declared.Refusal.TheVariants.{Broken}
 use Rattle.cell_nursery.specs.declared.Nursery.{Nursery}

@@ -8,9 +8,8 @@ use Rattle.std.proofs.Math.Bool.{true, false≢true}
 use Rattle.std.proofs.Math.Option.{none, some}
 use Rattle.std.proofs.lemmas.Bool.{eqb-false}
 use Rattle.base.specs.Logic.{pick, any, elem, max64}
-use Rattle.base.specs.Answers.{taken, ◌>>=◌, or_refuse, answer_of, number_of}
+use Rattle.base.specs.Answers.{taken, ◌>>=◌, or_refuse, answer_of, number_of, Refused}
 use Rattle.base.specs.Output.{fitting}
-use Rattle.base.specs.declared.Answer.TheVariants.{Refused}
 use Rattle.base.specs.declared.Refusal.{Refusal}
 use Rattle.base.specs.declared.Refusal.TheVariants.{Spent, Unallocated, Repeated, OffTotal, FalseOld, TableFull, Present, NurseryFull, TooLong, OutputFull, Broken, FewCells}
 use Rattle.rows.specs.Table.{rows_of}

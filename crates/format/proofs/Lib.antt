@@ -3,6 +3,8 @@
 -- `ModeLaws`: the same of the calls in a mode.
 -- `TakenLaws`: the items of a record that is taken are its delta.
 -- `ExactLaws`: it is the record that encoding writes.
+-- `BesideLaws`: beside a refusal every figure is 0.
+pub mod BesideLaws
 pub mod ExactLaws
 pub mod ModeLaws
 pub mod RecordLaws

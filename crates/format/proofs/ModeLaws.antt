@@ -6,13 +6,12 @@ use Rattle.std.proofs.Math.Path.{refl}
 use Rattle.std.proofs.Math.Bool.{false≢true}
 use Rattle.std.proofs.Common.{arith}
 use Rattle.base.specs.Logic.{any}
-use Rattle.base.specs.Answers.{refused, number_of}
+use Rattle.base.specs.Answers.{refused, number_of, Refused}
 use Rattle.base.specs.AnswerLaws.{exactly, Answers, first_alone, later-refused, first-numbers}
-use Rattle.base.specs.declared.Answer.TheVariants.{Refused}
 use Rattle.base.specs.declared.Refusal.{Refusal}
 use Rattle.base.specs.declared.Refusal.TheVariants.{BadSetting, Mismatch}
 use Rattle.blake3.specs.Mode.{Mode, bad_key, hash_by}
-use Rattle.format.specs.declared.Decoded.{Decoded}
+use Rattle.format.specs.Returned.{Decoded}
 use Rattle.format.specs.Calls.{EncodedOut, encoded_out, encode_call, encode_under, decoded_of, decode_call, decode_under}
 use Rattle.format.proofs.RefusalLaws.{decode-mismatch, decode-answer, decode-call-numbers, encode-numbers}
 use Rattle.format.specs.Record.{Whole, Matches}

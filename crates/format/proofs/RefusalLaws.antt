@@ -14,10 +14,9 @@ use Rattle.std.proofs.Math.Dec.{ltb, nleb→lt}
 use borrow.Author.Tests.{lt-ltb, ltb-true, ltb-false}
 use Rattle.base.specs.Logic.{eqb_list, any, elem}
 use Rattle.base.specs.Bytes.{unle}
-use Rattle.base.specs.Answers.{Outcome, refused, taken, ◌>>=◌, ◌>>◌, refuse_if, or_refuse, answer_of, number_of}
+use Rattle.base.specs.Answers.{Outcome, refused, taken, ◌>>=◌, ◌>>◌, refuse_if, or_refuse, answer_of, number_of, Refused}
 use Rattle.base.specs.ListLaws.{leb-le, ltb-lt}
 use Rattle.base.specs.OutcomeLaws.{other-number, refused-taken, taken_refused, taken-same, ends-here, ends-later, never_ends, Refuses, refuses-none, refuses-step, last-other, last-refused, last_taken, last-numbers}
-use Rattle.base.specs.declared.Answer.TheVariants.{Refused}
 use Rattle.base.specs.declared.Refusal.{Refusal}
 use Rattle.base.specs.declared.Refusal.TheVariants.{TooLong, OutputFull, ShortRecord, FarLength, Mismatch, Misfit, Broken, Leftover}
 use Rattle.slices.specs.Laws.{length_part, eqb_list-true, eqb_list-false}

@@ -10,8 +10,7 @@ use Rattle.std.proofs.Math.Option.{Option, none, some}
 use Rattle.base.specs.Logic.{zeros}
 use Rattle.base.specs.Bytes.{le32, le64, cut, read_list}
 use Rattle.base.specs.Laws.{read_le-append}
-use Rattle.base.specs.Answers.{answer_number, taken, or_refuse, refuse_if, ◌>>=◌, ◌>>◌}
-use Rattle.base.specs.declared.Answer.TheVariants.{Taken, Refused}
+use Rattle.base.specs.Answers.{answer_number, taken, or_refuse, refuse_if, ◌>>=◌, ◌>>◌, Taken, Refused}
 use Rattle.base.specs.declared.Refusal.TheVariants.{OutputFull, Misfit, Broken, BadSetting}
 use Rattle.blake3.specs.Mode.{Mode, mode_of}
 use Rattle.cell_nursery.specs.Entries.{Entry, hash_bytes}

@@ -7,12 +7,12 @@ use Rattle.std.proofs.Math.Bool.{true, false}
 use mathlib.Core.List.{List, [], ◌∷◌}
 use Rattle.base.specs.Logic.{pick, any}
 use Rattle.base.specs.AnswerLaws.{not-refused, Answers, first-refused, first_alone, later-refused, first-numbers}
-use Rattle.base.specs.declared.Answer.TheVariants.{Taken, Refused}
+use Rattle.base.specs.Answers.{Taken, Refused}
 use Rattle.base.specs.declared.Refusal.{Refusal}
 use Rattle.base.specs.declared.Refusal.TheVariants.{Damaged, BadSetting}
 use Rattle.cell_nursery.specs.Layout.{delay_in_range}
 use Rattle.blake3.specs.Mode.{Mode, bad_key, hash_by}
-use Rattle.journal.specs.declared.JournalScan.{JournalScan}
+use Rattle.journal.specs.Returned.{ScanAnswer}
 use Rattle.journal.specs.Journal.{scan, not_scanned, scan_under, damaged, ReadIn, not_read, read_call, read_under}
 use Rattle.journal.proofs.ReadLaws.{read-setting, read-damage, read-numbers, read-refused}
 
@@ -33,11 +33,11 @@ module _ (m : Mode) (bs : List ℕ) where
   -- 23, bad setting: a key that isn't of 32 bytes, and no other refusal
   pub scan-key : ((scan_under m bs).answer ≡ Refused BadSetting) ↔ (bad_key m ≡ true)
   unfolding scan_under not_scanned
-  scan-key = first_alone (λ (x : JournalScan). x.answer) (not_scanned BadSetting) (scan (hash_by m) bs) BadSetting refl (bad_key m) (scan-answers BadSetting)
+  scan-key = first_alone (λ (x : ScanAnswer). x.answer) (not_scanned BadSetting) (scan (hash_by m) bs) BadSetting refl (bad_key m) (scan-answers BadSetting)
 
   pub scan-numbers : Answers (23 ∷ []) (scan_under m bs).answer
   unfolding scan_under not_scanned
-  scan-numbers = first-numbers (λ (x : JournalScan). x.answer) (not_scanned BadSetting) (scan (hash_by m) bs) BadSetting refl (bad_key m) [] (λ q e. absurd (scan-answers q e))
+  scan-numbers = first-numbers (λ (x : ScanAnswer). x.answer) (not_scanned BadSetting) (scan (hash_by m) bs) BadSetting refl (bad_key m) [] (λ q e. absurd (scan-answers q e))
 
   -- beside it all is zeros
   pub scan-refused : (q : Refusal) → (scan_under m bs).answer ≡ Refused q → scan_under m bs ≡ not_scanned q

@@ -11,13 +11,11 @@ use mathlib.Core.List.{List, [], ◌∷◌}
 use Prim.Native.Nat.{ℕ, zero, suc, ◌+◌, ◌≤◌, ◌<◌}
 use Rattle.std.proofs.Math.ListN.{length-drop}
 use Rattle.base.specs.Logic.{any}
-use Rattle.base.specs.Answers.{Outcome, refused, taken, either, number_of, answer_number, ◌>>=◌}
+use Rattle.base.specs.Answers.{Outcome, refused, taken, either, number_of, answer_number, ◌>>=◌, Answer, Taken, Refused}
 use Rattle.base.specs.OutcomeLaws.{refused-taken, taken_refused, taken-same}
 use Rattle.base.specs.AnswerLaws.{not-refused, exactly, Answers}
 use Rattle.base.specs.declared.Refusal.{Refusal}
 use Rattle.base.specs.declared.Refusal.TheVariants.{ShortRecord, Damaged, BadSetting}
-use Rattle.base.specs.declared.Answer.{Answer}
-use Rattle.base.specs.declared.Answer.TheVariants.{Taken, Refused}
 use Rattle.cell_nursery.specs.Entries.{State}
 use Rattle.cell_nursery.specs.Delta.{Room, apply_delta}
 use Rattle.cell_nursery.specs.Layout.{room_of, record_of, delay_in_range}

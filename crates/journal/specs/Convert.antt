@@ -4,16 +4,15 @@
 use Rattle.std.specs.Prelude.{ℕ, zero, suc, ◌+◌, List, [], ◌∷◌, ◌++◌, length, drop, ltb, eqb}
 use Rattle.base.specs.Logic.{pick, flat, overlay}
 use Rattle.base.specs.Bytes.{le64}
-use Rattle.base.specs.Answers.{Outcome, refused, taken, either, ◌>>=◌, ◌>>◌, refuse_if}
+use Rattle.base.specs.Answers.{Outcome, refused, taken, either, ◌>>=◌, ◌>>◌, refuse_if, Taken, Refused}
 use Rattle.base.specs.declared.Refusal.TheVariants.{OutputFull, Damaged, BadSetting}
-use Rattle.base.specs.declared.Answer.TheVariants.{Taken, Refused}
 use Rattle.cell_nursery.specs.Entries.{empty}
 use Rattle.cell_nursery.specs.Items.{Delta}
 use Rattle.cell_nursery.specs.Delta.{apply_delta}
 use Rattle.cell_nursery.specs.Layout.{room_of, delay_in_range}
 use Rattle.format.specs.declared.RecordStats.{RecordStats}
 use Rattle.format.specs.Record.{Decoding, record_bytes, used_bytes, leftover, parse}
-use Rattle.journal.specs.declared.Converted.{Converted}
+use Rattle.journal.specs.Returned.{ConvertedAnswer}
 use Rattle.journal.specs.Journal.{Step, records_from, damages, ReadIn, not_read, read_out}
 
 -- ---- the new journal
@@ -60,12 +59,12 @@ convert hash bs = convert_from hash (length bs) 0 bs
 
 -- what converting returns, and its two outputs after it
 pub record ConvertedOut : Type 0 where
-  pub result : Converted
+  pub result : ConvertedAnswer
   pub out : List ℕ
   pub dropped : List ℕ
 
 -- converting's effect, for its contract: what it returned, and the outputs as it left them
-abbrev pub effect : Converted → List ℕ → List ℕ → ConvertedOut
+abbrev pub effect : ConvertedAnswer → List ℕ → List ℕ → ConvertedOut
 effect r out dropped = record { result = r; out = out; dropped = dropped }
 
 -- the new journal goes into one output, the list of what was dropped into the other; a refusal touches neither

@@ -3,8 +3,7 @@
 -- Assumes nothing.
 use Rattle.std.specs.Prelude.{◌≡◌, refl, ℕ, List, [], ◌∷◌, ◌++◌, true, false, take, drop, replicate}
 use Rattle.base.specs.Logic.{zeros}
-use Rattle.base.specs.Answers.{answer_number}
-use Rattle.base.specs.declared.Answer.TheVariants.{Taken, Refused}
+use Rattle.base.specs.Answers.{answer_number, Taken, Refused}
 use Rattle.base.specs.declared.Refusal.TheVariants.{FarLength, BadSetting}
 use Rattle.blake3.specs.Mode.{Mode, mode_of}
 use Rattle.cell_nursery.specs.Entries.{Entry, empty, insert}

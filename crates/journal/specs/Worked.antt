@@ -4,7 +4,7 @@
 use Rattle.std.specs.Prelude.{◌≡◌, refl, ℕ, List, [], ◌∷◌, ◌++◌, length, take, drop, replicate}
 use Rattle.base.specs.Logic.{zeros}
 use Rattle.base.specs.Bytes.{le32, le64}
-use Rattle.base.specs.declared.Answer.TheVariants.{Taken, Refused}
+use Rattle.base.specs.Answers.{Taken, Refused}
 use Rattle.base.specs.declared.Refusal.TheVariants.{OutputFull}
 use Rattle.journal.specs.Convert.{Dropped, ConvertedOut, unchanged, convert, convert_call}
 use Rattle.journal.specs.Open.{evaluation}

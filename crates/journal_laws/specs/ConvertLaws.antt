@@ -14,12 +14,11 @@ use Rattle.std.proofs.Math.Dec.{ltb}
 use Rattle.base.specs.Logic.{pick, any, flat}
 use Rattle.base.specs.ListLaws.{all_drop, ltb-lt}
 use Rattle.base.specs.SpellLaws.{Bytes}
-use Rattle.base.specs.Answers.{Outcome, refused, taken, number_of, ◌>>=◌, ◌>>◌, refuse_if, answer_of}
+use Rattle.base.specs.Answers.{Outcome, refused, taken, number_of, ◌>>=◌, ◌>>◌, refuse_if, answer_of, Taken, Refused}
 use Rattle.base.specs.AnswerLaws.{exactly, ends-twice, Answers, says, says-numbers, not-refused}
 use Rattle.base.specs.OutcomeLaws.{taken_refused, ends-here, refuses-none, refuses-step}
 use Rattle.base.specs.declared.Refusal.{Refusal}
 use Rattle.base.specs.declared.Refusal.TheVariants.{OutputFull, ShortRecord, Damaged, Leftover, BadSetting}
-use Rattle.base.specs.declared.Answer.TheVariants.{Taken, Refused}
 use Rattle.cell_nursery.specs.Entries.{State, empty}
 use Rattle.cell_nursery.specs.Items.{Delta}
 use Rattle.cell_nursery.specs.Delta.{Room, apply_delta}

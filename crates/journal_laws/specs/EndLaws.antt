@@ -12,12 +12,10 @@ use Rattle.std.proofs.Math.ListN.{length, drop, length-drop}
 use Rattle.std.proofs.Math.Seq.{drop-drop}
 use Rattle.base.specs.Logic.{eqb_list, any, elem}
 use Rattle.base.specs.ListLaws.{fails-not, all_drop}
-use Rattle.base.specs.Answers.{refused, taken, either, number_of, answer_number}
+use Rattle.base.specs.Answers.{refused, taken, either, number_of, answer_number, Answer, Taken, Refused}
 use Rattle.base.specs.OutcomeLaws.{other-number, taken_refused, ends-here, ends-later, never_ends, Refuses, refuses-none, refuses-step}
 use Rattle.base.specs.declared.Refusal.{Refusal}
 use Rattle.base.specs.declared.Refusal.TheVariants.{Present, NurseryFull, ShortRecord, Mismatch, Damaged, BadSetting}
-use Rattle.base.specs.declared.Answer.{Answer}
-use Rattle.base.specs.declared.Answer.TheVariants.{Taken, Refused}
 use Rattle.slices.specs.Laws.{eqb_list-true, eqb_list-false}
 use Rattle.cell_nursery.specs.Entries.{State, empty}
 use Rattle.cell_nursery.specs.Items.{Delta}

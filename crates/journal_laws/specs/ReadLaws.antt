@@ -13,10 +13,8 @@ use Rattle.std.proofs.Math.ListN.{length, take, length-append}
 use Rattle.std.proofs.Math.Seq.{take-append-add, take-append-le}
 use Rattle.std.proofs.lemmas.Bool.{lt-leb}
 use Rattle.base.specs.Logic.{pick, flat, fold}
-use Rattle.base.specs.Answers.{refused, taken}
+use Rattle.base.specs.Answers.{refused, taken, Answer, Taken, Refused}
 use Rattle.base.specs.declared.Refusal.TheVariants.{ShortRecord}
-use Rattle.base.specs.declared.Answer.{Answer}
-use Rattle.base.specs.declared.Answer.TheVariants.{Taken, Refused}
 use Rattle.cell_nursery.specs.Entries.{State, empty}
 use Rattle.cell_nursery.specs.Items.{Delta}
 use Rattle.cell_nursery.specs.Delta.{Room, present, full, state_after}

@@ -4,8 +4,7 @@
 use Rattle.std.specs.Prelude.{◌≡◌, refl, ℕ, ◌*◌, ◌^◌, true, false, List, [], ◌∷◌, map, length, take, replicate}
 use Rattle.std.proofs.Math.Option.{Option, none, some}
 use Rattle.base.specs.Logic.{zeros, max64}
-use Rattle.base.specs.Answers.{answer_number}
-use Rattle.base.specs.declared.Answer.TheVariants.{Taken}
+use Rattle.base.specs.Answers.{answer_number, Taken}
 use Rattle.blake3.specs.Mode.{Mode, mode_of, unkeyed, bad_key}
 use Rattle.counters.specs.declared.CounterTransition.{CounterTransition}
 use Rattle.cell_nursery.specs.Entries.{Entry, State, empty}

@@ -13,11 +13,9 @@ use borrow.Author.Tests.{le-leb, lt-leb}
 use Rattle.base.specs.Logic.{pick, all, elem, flat, keep, zeros, overlay}
 use Rattle.base.specs.ListLaws.{or-false, Among, keep_append, all_append, all_head, all_tail, all_left, all_right}
 use Rattle.base.specs.Maybe.{maybe}
-use Rattle.base.specs.Answers.{taken, ◌>>◌, refuse_if}
+use Rattle.base.specs.Answers.{taken, ◌>>◌, refuse_if, Answer, Taken, Refused}
 use Rattle.base.specs.AnswerLaws.{not-refused}
 use Rattle.base.specs.Output.{fitting}
-use Rattle.base.specs.declared.Answer.{Answer}
-use Rattle.base.specs.declared.Answer.TheVariants.{Taken, Refused}
 use Rattle.base.specs.declared.Refusal.TheVariants.{OutputFull}
 use Rattle.blake3.specs.Mode.{Mode, hash_by}
 use Rattle.cell_nursery.specs.Entries.{Entry, State, empty}

@@ -5,7 +5,7 @@ use Rattle.std.proofs.Math.Option.{Option, none, some}
 use Rattle.base.specs.Logic.{pick, all, elem, flat, keep, overlay}
 use Rattle.base.specs.ListLaws.{Among}
 use Rattle.base.specs.Maybe.{maybe}
-use Rattle.base.specs.declared.Answer.TheVariants.{Taken}
+use Rattle.base.specs.Answers.{Taken}
 use Rattle.blake3.specs.Mode.{Mode}
 use Rattle.cell_nursery.specs.Entries.{Entry}
 use Rattle.cell_nursery.specs.Items.{Delta, delta_of}

@@ -4,8 +4,7 @@
 use Rattle.std.specs.Prelude.{◌≡◌, refl, ℕ, List, [], ◌∷◌, ◌++◌, length, take, drop, replicate}
 use Rattle.base.specs.Logic.{flat, from, zeros}
 use Rattle.base.specs.Bytes.{le64}
-use Rattle.base.specs.Answers.{answer_number, taken}
-use Rattle.base.specs.declared.Answer.TheVariants.{Taken, Refused}
+use Rattle.base.specs.Answers.{answer_number, taken, Taken, Refused}
 use Rattle.base.specs.declared.Refusal.TheVariants.{TornSnapshot, TierClash, OutputFull, BadSetting}
 use Rattle.roaring.specs.Write.{write64}
 use Rattle.counters.specs.declared.ShrinkSettings.{ShrinkSettings}

@@ -14,14 +14,12 @@ use borrow.Author.Tests.{le-ltb, lt-ltb}
 use Rattle.base.specs.ListLaws.{all_drop}
 use Rattle.base.specs.Logic.{all, any, elem, overlay}
 use Rattle.base.specs.Laws.{and_left, and_right}
-use Rattle.base.specs.Answers.{Outcome, refused, taken, number_of, answer_number, answer_of}
+use Rattle.base.specs.Answers.{Outcome, refused, taken, number_of, answer_number, answer_of, Answer, Taken, Refused}
 use Rattle.base.specs.AnswerLaws.{not-refused, exactly, Answers, says-numbers}
 use Rattle.base.specs.OutcomeLaws.{taken_refused, refuses-none, answer-refused}
 use Rattle.base.specs.declared.Refusal.{Refusal}
 use Rattle.base.specs.declared.Refusal.TheVariants.{Broken, OutputFull, BadSetting}
-use Rattle.base.specs.declared.Answer.{Answer}
 use Rattle.base.specs.Output.{Written, fitting, put, written}
-use Rattle.base.specs.declared.Answer.TheVariants.{Taken, Refused}
 use Rattle.rows.specs.Table.{rows_of}
 use Rattle.rows.proofs.TableLaws.{length-rows_of}
 use Rattle.counters.specs.declared.ShrinkSettings.{ShrinkSettings}

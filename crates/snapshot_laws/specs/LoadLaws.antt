@@ -8,13 +8,11 @@ use Rattle.std.proofs.Math.Bool.{false≢true}
 use Rattle.std.proofs.lemmas.List.{length-map}
 use Rattle.base.specs.Logic.{all, any}
 use Rattle.base.specs.SumLaws.{all_map, ascending-length}
-use Rattle.base.specs.Answers.{Outcome, refused, taken, ◌>>=◌, answer_of, number_of}
+use Rattle.base.specs.Answers.{Outcome, refused, taken, ◌>>=◌, answer_of, number_of, Answer, Taken, Refused}
 use Rattle.base.specs.OutcomeLaws.{taken_refused}
 use Rattle.base.specs.AnswerLaws.{not-refused, exactly, Answers, says, says-numbers}
 use Rattle.base.specs.declared.Refusal.{Refusal}
 use Rattle.base.specs.declared.Refusal.TheVariants.{FewCells, BadSetting}
-use Rattle.base.specs.declared.Answer.{Answer}
-use Rattle.base.specs.declared.Answer.TheVariants.{Taken, Refused}
 use Rattle.counters.specs.declared.ShrinkSettings.{ShrinkSettings}
 use Rattle.counters.specs.Counts.{State}
 use Rattle.counters.specs.Maintenance.{in_range}

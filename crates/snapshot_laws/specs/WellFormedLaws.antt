@@ -7,11 +7,9 @@ use Rattle.std.proofs.Math.Option.{Option, none, some}
 use Rattle.base.specs.Logic.{pick, all, fold, max64}
 use Rattle.base.specs.Laws.{and_left, and_right}
 use Rattle.base.specs.ListLaws.{all_keep, all_drop}
-use Rattle.base.specs.Answers.{taken}
+use Rattle.base.specs.Answers.{taken, Answer, Taken, Refused}
 use Rattle.base.specs.AnswerLaws.{not-refused}
 use Rattle.base.specs.declared.Refusal.TheVariants.{Spent, Broken}
-use Rattle.base.specs.declared.Answer.{Answer}
-use Rattle.base.specs.declared.Answer.TheVariants.{Taken, Refused}
 use Rattle.rows.specs.Table.{rows_of}
 use Rattle.rows.proofs.RowLaws.{all-put}
 use Rattle.rows.proofs.KeyLaws.{put_rows}

@@ -8,11 +8,9 @@ use Rattle.std.proofs.Math.Path.{refl, ap}
 use Rattle.std.proofs.Common.{sym, ◌∙◌}
 use mathlib.Core.List.{List, [], ◌∷◌}
 use Rattle.base.specs.Logic.{elem, zeros}
-use Rattle.base.specs.Answers.{Outcome, refused, taken, ◌>>=◌, or_refuse, answer_of, value_or, answer_number}
+use Rattle.base.specs.Answers.{Outcome, refused, taken, ◌>>=◌, or_refuse, answer_of, value_or, answer_number, Answer, Taken, Refused}
 use Rattle.base.specs.AnswerLaws.{not-refused}
 use Rattle.base.specs.Output.{put, fitting, written}
-use Rattle.base.specs.declared.Answer.{Answer}
-use Rattle.base.specs.declared.Answer.TheVariants.{Taken, Refused}
 use Rattle.base.specs.declared.Refusal.{Refusal}
 use Rattle.base.specs.declared.Refusal.TheVariants.{Broken}
 use Rattle.counters.specs.declared.ShrinkSettings.{ShrinkSettings}

@@ -4,10 +4,8 @@ use Rattle.std.specs.Prelude.{ℕ, ◌≡◌, refl, ◌↔◌, true, List, ◌�
 use Rattle.std.proofs.Common.{ap, arith}
 use Rattle.std.proofs.Math.Bool.{or-true}
 use Rattle.base.specs.Logic.{any, elem}
-use Rattle.base.specs.Answers.{answer_number, number_of}
+use Rattle.base.specs.Answers.{answer_number, number_of, Answer, Taken, Refused}
 use Rattle.base.specs.AnswerLaws.{Answers, not-refused}
-use Rattle.base.specs.declared.Answer.{Answer}
-use Rattle.base.specs.declared.Answer.TheVariants.{Taken, Refused}
 use Rattle.base.specs.declared.Refusal.{Refusal}
 use Rattle.base.specs.declared.Refusal.TheVariants.{Spent, Unallocated, Repeated, OffTotal, FalseOld, TableFull, Version, TornSnapshot, BadBitmap, BadLarge, TierClash, Present, NurseryFull, TooLong, OutputFull, ShortRecord, FarLength, Mismatch, Misfit, Broken, Damaged, Leftover, BadSetting, FewCells}
 

@@ -10,10 +10,8 @@ use Rattle.std.proofs.Math.Logic.{inl, inr}
 use Rattle.std.proofs.Math.Bool.{true, false}
 use mathlib.Core.List.{List, [], ◌∷◌}
 use Rattle.base.specs.Logic.{pick, any, elem, flat, zeros}
-use Rattle.base.specs.Answers.{Outcome, refused, taken, number_of, answer_number, ◌>>=◌, ◌>>◌, refuse_if, or_refuse}
+use Rattle.base.specs.Answers.{Outcome, refused, taken, number_of, answer_number, ◌>>=◌, ◌>>◌, refuse_if, or_refuse, Answer, Taken, Refused}
 use Rattle.base.specs.AnswerLaws.{exactly}
-use Rattle.base.specs.declared.Answer.{Answer}
-use Rattle.base.specs.declared.Answer.TheVariants.{Taken, Refused}
 use Rattle.base.specs.declared.Refusal.TheVariants.{OutputFull, Broken, BadSetting}
 use Rattle.blake3.specs.Spec as blake3
 use Rattle.blake3.specs.Equations.{length-hash}
@@ -24,7 +22,8 @@ use Rattle.cell_nursery.specs.Layout.{delay_in_range}
 use Rattle.cell_nursery.specs.Calls.{length_width}
 use Rattle.slices.specs.ByteLaws.{U8, u8-bytes}
 use Rattle.format.specs.Record.{Encoding, Decoding, encode, decode}
-use Rattle.format.specs.Calls.{no_stats, encoded_out, encode_call, encode_under, decoded_of, decode_call, decode_under}
+use Rattle.format.specs.Returned.{no_stats}
+use Rattle.format.specs.Calls.{encoded_out, encode_call, encode_under, decoded_of, decode_call, decode_under}
 use Rattle.format.proofs.ModeLaws.{encode-key, decode-key}
 use Rattle.journal.specs.Journal.{scan, not_scanned, scan_under, damages, damaged, ReadIn, not_read, read_out, read_call, read_under}
 use Rattle.journal.proofs.ModeLaws as mode
