@@ -4,36 +4,19 @@
 ghost use Rattle.std.specs.Prelude.{◌≡◌, ◌*◌, ◌≤◌, ◌<◌, length};
 ghost use Rattle.base.specs.Logic.{ascending_from};
 ghost use Rattle.rows.specs.Table.{holds_rows};
-ghost use Rattle.rows.specs.Keys.{keys, first_word, first_four};
+ghost use Rattle.rows.specs.Keys.{keys};
 
-use row_search::{below, wide_at};
+use row_search::RowKey;
 
 // Whether the keys of the first n rows ascend.
-pub fn ascend(t: &[u64], w: usize, n: usize) -> bool
-    requires { (0 < w) × (n * w ≤ length t.now) }
-    ensures { result ≡ ascending_from 0 (keys first_word w n t.now) }
+pub fn ascend<K: RowKey>(t: &[u64], w: usize, n: usize) -> bool
+    requires { (K.words ≤ w) × (n * w ≤ length t.now) }
+    ensures { result ≡ ascending_from 0 (keys K.spelt w n t.now) }
 {
-    let mut i = 0;
-    while i + 1 < n {
-        if t[(i + 1) * w] <= t[i * w] {
+    for i in 1..n {
+        if !K::read(t, (i - 1) * w).is_below(K::read(t, i * w)) {
             return false;
         }
-        i += 1;
-    }
-    true
-}
-
-// The same for keys of four words.
-pub fn ascend_wide(t: &[u64], w: usize, n: usize) -> bool
-    requires { (4 ≤ w) × (n * w ≤ length t.now) }
-    ensures { result ≡ ascending_from 0 (keys first_four w n t.now) }
-{
-    let mut i = 0;
-    while i + 1 < n {
-        if !below(wide_at(t, i * w), wide_at(t, (i + 1) * w)) {
-            return false;
-        }
-        i += 1;
     }
     true
 }
@@ -46,5 +29,5 @@ pub fn holds_rows(t: &[u64], w: usize, n: usize) -> bool
     if t.len() / w < n {
         return false;
     }
-    word_slices::zero_from(t, n * w)
+    slices::all_from(t, n * w, 0)
 }

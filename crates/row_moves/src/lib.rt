@@ -9,8 +9,8 @@ pub fn insert_row(t: &mut [u64], at: usize, end: usize, row: &[u64])
     requires { (at ≤ end) × (end + length row.now ≤ length t.old) }
     ensures { t.new ≡ take at t.old ++ (row.now ++ (take (end - at) (drop at t.old) ++ drop (end + length row.now) t.old)) }
 {
-    word_slices::move_up(t, at, at + row.len(), end - at);
-    word_slices::copy_at(t, at, row);
+    slices::move_within(t, at, at + row.len(), end - at);
+    slices::copy_at(t, at, row);
 }
 
 // The w words at index `at` go: the words behind them to `end` move down, and zeros take the places that this frees.
@@ -18,6 +18,6 @@ pub fn remove_row(t: &mut [u64], at: usize, end: usize, w: usize)
     requires { (at + w ≤ end) × (end ≤ length t.old) }
     ensures { t.new ≡ take at t.old ++ (take (end - (at + w)) (drop (at + w) t.old) ++ (zeros w ++ drop end t.old)) }
 {
-    word_slices::move_down(t, at + w, at, end - (at + w));
-    word_slices::fill(t, end - w, w, 0);
+    slices::move_within(t, at + w, at, end - (at + w));
+    slices::fill(t, end - w, w, 0);
 }

@@ -1,12 +1,15 @@
--- Keys of four words order as their words do, the highest first.
+-- Keys of four words are the same and order as their words are and do, the highest first: so the derived comparisons are those of the keys' numbers.
 -- Assumes nothing.
-use Rattle.std.specs.Prelude.{◌≡◌, List, ℕ, ◌+◌, ◌*◌, ◌^◌, ◌<◌, drop, get_or}
-use Rattle.std.proofs.Common.{sym, ◌∙◌, arith, get_or-drop, le-ltb, lt-ltb}
-use Rattle.std.proofs.Math.Path.{ap}
+use Rattle.std.specs.Prelude.{◌≡◌, Bool, true, false, ◌&&◌, Option, Some, List, ℕ, ◌+◌, ◌*◌, ◌^◌, ◌<◌, ◌≤◌, drop, get_or}
+use Rattle.std.specs.Ordering.{is_lt, is_some_and, nat_cmp, partial_lt, partial_ordering_then}
+use Rattle.std.proofs.Common.{Ordering, sym, ap, ◌∙◌, arith, eqb, ltb, eqb-true, eq-eqb, ne_eqb, ltb-true, ltb-false, le-ltb, lt-ltb, get_or-drop}
 use Rattle.std.proofs.Math.Decide.{dec_lt}
-use Rattle.std.proofs.Math.Dec.{ltb}
+use Rattle.std.proofs.lemmas.Bool.{eqb-false}
+use Rattle.std.proofs.lemmas.Bool.Decides.{nat_tests}
 use Rattle.base.specs.Bytes.{number}
 use Rattle.rows.specs.declared.Wide.{Wide}
+use Rattle.rows.specs.contracts.WidePartialEq.TheImpl as equality
+use Rattle.rows.specs.contracts.WidePartialOrd.TheImpl as order
 use Rattle.rows.specs.Keys.{first_four}
 use Rattle.rows.specs.Wide.{key_of}
 
@@ -39,6 +42,20 @@ high_same x y u v hx hy e = omega arith
 
 low_same : (x y u v : ℕ) → x < 2 ^ 64 → y < 2 ^ 64 → x + 2 ^ 64 * u ≡ y + 2 ^ 64 * v → x ≡ y
 low_same x y u v hx hy e = omega arith
+
+-- of two numbers, their order decides where they differ, and what follows where they don't
+decide : (x y : ℕ) (rest : Option Ordering) (r : Bool) → ((x ≡ y → ⊥) → ltb x y ≡ r) → (x ≡ y → is_some_and is_lt rest ≡ r)
+    → is_some_and is_lt (partial_ordering_then (Some (nat_cmp x y)) rest) ≡ r
+decide x y rest r here there = grind (arith, nat_tests)
+
+last : (x y : ℕ) → is_lt (nat_cmp x y) ≡ ltb x y
+last x y = grind (arith, nat_tests)
+
+both : (x y : ℕ) (rest r : Bool) → ((x ≡ y → ⊥) → false ≡ r) → (x ≡ y → rest ≡ r) → (eqb x y && rest) ≡ r
+both x y rest r here there = grind (arith, nat_tests)
+
+alone : (x y : ℕ) (r : Bool) → ((x ≡ y → ⊥) → false ≡ r) → (x ≡ y → true ≡ r) → eqb x y ≡ r
+alone x y r here there = grind (arith, nat_tests)
 
 -- the words are u64
 pub record Words (k : Wide) : Type 0 where
@@ -91,3 +108,48 @@ module _ (a b : Wide) (ha : Words a) (hb : Words b) where
   by-fourth e₀ e₁ e₂ =
       let e : three a ≡ three b = rw (e₀, e₁, e₂) in
       low a.3 b.3 (three a) ∙ ap (λ (x : ℕ). ltb (a.3 + 2 ^ 64 * three a) (b.3 + 2 ^ 64 * x)) e
+
+  -- keys are the same only where all their words are
+  words-same : key_of a ≡ key_of b → (a.0 ≡ b.0) × (a.1 ≡ b.1) × (a.2 ≡ b.2) × (a.3 ≡ b.3)
+  unfolding key_of number
+  words-same e =
+      let x = high_same a.3 b.3 (three a) (three b) ha.fourth hb.fourth e in
+      let y = high_same a.2 b.2 (two a) (two b) ha.third hb.third x in (
+        omega (arith, high_same a.1 b.1 (one a) (one b) ha.second hb.second y),
+        low_same a.1 b.1 (one a) (one b) ha.second hb.second y,
+        low_same a.2 b.2 (two a) (two b) ha.third hb.third x,
+        low_same a.3 b.3 (three a) (three b) ha.fourth hb.fourth e,
+      )
+
+  -- so the derived equality is that of the keys
+  pub alike : equality.eq-value.it a b ≡ eqb (key_of a) (key_of b)
+  unfolding key_of
+  alike =
+      let differ : (key_of a ≡ key_of b → ⊥) → false ≡ eqb (key_of a) (key_of b) = λ ne. sym (ne_eqb _ _ ne) in
+      both a.0 b.0 _ _ (λ ne. differ (λ e. ne (words-same e).0))
+      (λ e₀. both a.1 b.1 _ _ (λ ne. differ (λ e. ne (words-same e).1))
+      (λ e₁. both a.2 b.2 _ _ (λ ne. differ (λ e. ne (words-same e).2))
+      (λ e₂. alone a.3 b.3 _ (λ ne. differ (λ e. ne (words-same e).3))
+      (λ e₃. sym (eq-eqb (key_of a) (key_of b) (rw (e₀, e₁, e₂, e₃)))))))
+
+  -- so the derived order is that of the keys
+  pub less : partial_lt order.partial_cmp-value.it a b ≡ ltb (key_of a) (key_of b)
+  less =
+      decide a.0 b.0 _ _ by_first
+      (λ e₀. decide a.1 b.1 _ _ (by-second e₀)
+      (λ e₁. decide a.2 b.2 _ _ (by-third e₀ e₁)
+      (λ e₂. last a.3 b.3 ∙ by-fourth e₀ e₁ e₂)))
+
+  -- what each answer of `a == b` and of `a < b` says
+  module _ {r : Bool} where
+    pub when-same : r ≡ equality.eq-value.it a b → r ≡ true → key_of a ≡ key_of b
+    when-same e t = eqb-true (key_of a) (key_of b) (sym (e ∙ alike) ∙ t)
+
+    pub when-other : r ≡ equality.eq-value.it a b → r ≡ false → key_of a ≡ key_of b → ⊥
+    when-other e f = eqb-false (key_of a) (key_of b) (sym (e ∙ alike) ∙ f)
+
+    pub when-less : r ≡ partial_lt order.partial_cmp-value.it a b → r ≡ true → key_of a < key_of b
+    when-less e t = ltb-true (key_of a) (key_of b) (sym (e ∙ less) ∙ t)
+
+    pub when-no-less : r ≡ partial_lt order.partial_cmp-value.it a b → r ≡ false → key_of b ≤ key_of a
+    when-no-less e f = ltb-false (key_of a) (key_of b) (sym (e ∙ less) ∙ f)

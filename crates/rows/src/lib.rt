@@ -4,6 +4,6 @@
 // `row_search`, `row_checks` and `row_moves`.
 #![tactic(auto)]
 
-// A key of four words, the highest first.
-#[derive(Clone, Copy)]
+// A key of four words, the highest first: so keys compare as the numbers that they spell.
+#[derive(Clone, Copy, PartialEq, Eq, PartialOrd, Ord)]
 pub struct Wide(pub u64, pub u64, pub u64, pub u64);

@@ -1,4 +1,4 @@
--- `Places`: a list put into another. `Laws`: pastes, parts and comparisons. `Turns`: a turn of each loop over a slice. `NumberLaws`: numbers in bytes.
+-- `Places`: a list put into another. `Laws`: pastes, parts and comparisons. `Turns`: a turn of a loop over a slice. `NumberLaws`: numbers in bytes.
 -- `ByteLaws`: lists of bytes. `PlaceLaws`: lists put into a list at places.
 pub mod Places
 pub mod Laws

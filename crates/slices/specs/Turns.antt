@@ -1,4 +1,4 @@
--- A turn of each loop over a slice and its end, over lists: the proofs for words and for bytes cite the same laws.
+-- A turn of a loop over a slice and its end, over lists of any items.
 -- Assumes nothing.
 use Rattle.std.specs.Prelude.{◌≡◌, refl, Bool, ◌&&◌, List, [], ◌∷◌, ◌++◌, ℕ, zero, suc, ◌+◌, ◌-◌, ◌≤◌, ◌<◌, eqb, length, get_or, set, take, drop, replicate}
 use Rattle.std.proofs.Common.{sym, ap, ◌∙◌, append_assoc, add-suc, add-one, arith, length-drop, drop_of_length-le, take-suc, drop-cons, get_or-drop}
@@ -69,7 +69,18 @@ module _ {A : Type 0} where
       let q : suc (j - 1) ≡ j = omega arith in
       up-last t from to (j - 1) d h (omega arith) ∙ ap (λ (n : ℕ). paste t to (drop from t) n) q ∙ e
 
--- ---- tests of every item: the answer so far and the test of what is left give the answer
+  -- ---- a test of every item: the answer so far and the test of what is left give the answer
+
+  module _ (p : A → Bool) (b : Bool) (t : List A) (i : ℕ) {r : Bool} (e : (b && all p (drop i t)) ≡ r) where
+    pub all-turn : (x : A) → x ≡ get_or t i x → i < length t → ((b && p x) && all p (drop (i + 1) t)) ≡ r
+    unfolding all
+    all-turn x f h = rw (add-one i, and_assoc b (p x) (all p (drop (suc i) t))) (rw (drop-cons t i x h, ← f) at e)
+
+    pub all-end : length t ≤ i → b ≡ r
+    unfolding all
+    all-end h = sym (and-true b) ∙ (rw (drop_of_length-le t h) at e)
+
+-- ---- the same of numbers
 
 pub equal-turn : (s : Bool) (a b : List ℕ) (i : ℕ) {r : Bool} → (s && eqb_list (drop i a) (drop i b)) ≡ r → i < length a → i < length b
     → ((s && eqb (get_or a i 0) (get_or b i 0)) && eqb_list (drop (i + 1) a) (drop (i + 1) b)) ≡ r

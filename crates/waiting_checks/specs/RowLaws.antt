@@ -51,9 +51,9 @@ module _ (r : Nursery) (es : List ℕ) (w : WaitingRow) (k : ℕ) (here : k ≡ 
     at : get_or (keys first_four 8 r.entries es) k 0 ≡ first_four (drop (k * 8) es)
     at = key-at first_four 8 r.entries es k l
 
-    pub names-other : hash_of w.hash < first_four (drop (k * 8) es) → false ≡ names_at r es w
+    pub names-other : (first_four (drop (k * 8) es) ≡ hash_of w.hash → ⊥) → false ≡ names_at r es w
     unfolding names_at
-    names-other g = rw (← here, lt-ltb k r.entries l, at, ne_eqb (first_four (drop (k * 8) es)) (hash_of w.hash) (omega arith))
+    names-other ne = rw (← here, lt-ltb k r.entries l, at, ne_eqb (first_four (drop (k * 8) es)) (hash_of w.hash) ne)
 
     pub names-round : first_four (drop (k * 8) es) ≤ hash_of w.hash → eqb (get_or es (k * 8 + 5) 0) w.born ≡ names_at r es w
     unfolding names_at

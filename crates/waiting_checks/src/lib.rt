@@ -49,13 +49,7 @@ fn reaches(r: Nursery, es: &[u64], k: usize, hash: Wide) -> bool
     requires { EntriesHeld r es.now }
     ensures { result ≡ leb k (place (key_of hash) (keys first_four 8 r.entries es.now)) }
 {
-    if k == 0 {
-        return true;
-    }
-    if r.entries < k {
-        return false;
-    }
-    row_search::below(row_search::wide_at(es, (k - 1) * 8), hash)
+    k == 0 || (k <= r.entries && row_search::wide_at(es, (k - 1) * 8) < hash)
 }
 
 // Whether it lies in the window from entry lo on.
@@ -63,10 +57,7 @@ fn in_window(r: Nursery, es: &[u64], lo: usize, hash: Wide) -> bool
     requires { EntriesHeld r es.now × (lo ≤ r.entries) }
     ensures { result ≡ within lo (place (key_of hash) (keys first_four 8 r.entries es.now)) }
 {
-    if !reaches(r, es, lo, hash) {
-        return false;
-    }
-    !reaches(r, es, lo + WINDOW, hash)
+    reaches(r, es, lo, hash) && !reaches(r, es, lo + WINDOW, hash)
 }
 
 // Whether entry k, at the place of waiting row j's hash, has that hash and the row's born round.
@@ -77,13 +68,8 @@ fn names(r: Nursery, es: &[u64], ws: &[u64], j: usize, k: usize) -> bool
     if r.entries <= k {
         return false;
     }
-    if row_search::below(
-        row_search::wide_at(ws, j * 5 + 1),
-        row_search::wide_at(es, k * 8),
-    ) {
-        return false;
-    }
-    es[k * 8 + 5] == ws[j * 5]
+    row_search::wide_at(es, k * 8) == row_search::wide_at(ws, j * 5 + 1)
+        && es[k * 8 + 5] == ws[j * 5]
 }
 
 // Whether waiting row j lies in another window, or names an entry of this one that isn't marked. Then that entry is.
@@ -103,7 +89,7 @@ fn mark_row(
     if !in_window(r, es, lo, hash) {
         return true;
     }
-    let k = row_search::find_wide(es, 8, r.entries, hash);
+    let k = row_search::find(es, 8, r.entries, hash);
     if !names(r, es, ws, j, k) {
         return false;
     }
@@ -120,12 +106,10 @@ fn window_tied(r: Nursery, es: &[u64], ws: &[u64], lo: usize) -> bool
     ensures { result ≡ window_clean r es.now lo (rows_of waiting_row r.waiting ws.now) }
 {
     let mut marks = [0u64; 1024];
-    let mut j = 0;
-    while j < r.waiting {
+    for j in 0..r.waiting {
         if !mark_row(r, es, ws, j, lo, &mut marks) {
             return false;
         }
-        j += 1;
     }
     true
 }
@@ -135,12 +119,10 @@ pub fn tied(r: Nursery, es: &[u64], ws: &[u64]) -> bool
     requires { EntriesHeld r es.now × WaitingHeld r ws.now }
     ensures { (cs : List ℕ) → result ≡ entries.tied (state_of r es.now ws.now cs) }
 {
-    let mut lo = 0;
-    while lo <= r.entries {
+    for lo in (0..=r.entries).step_by(WINDOW) {
         if !window_tied(r, es, ws, lo) {
             return false;
         }
-        lo += WINDOW;
     }
     true
 }

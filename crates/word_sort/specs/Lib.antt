@@ -1,7 +1,8 @@
--- `Sort`: numbers in order. `Halves`: what merging asks for. `SortLaws`: a sorted list is one in order with the same numbers, and no other is.
--- `MergeLaws`: two parts in order become one, a number at a time. `PartLaws`: the parts of a slice that is sorted by halves.
+-- `Sort`: numbers in order. `SortLaws`: a sorted list is one in order with the same numbers, and no other is. `OrderLaws`: so a list that the library
+-- has sorted is the sorted one. `Halves`, `MergeLaws` and `PartLaws`: laws of sorting by halves, of two parts in order that become one.
 pub mod Sort
-pub mod Halves
 pub mod SortLaws
+pub mod OrderLaws
+pub mod Halves
 pub mod MergeLaws
 pub mod PartLaws

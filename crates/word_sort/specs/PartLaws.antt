@@ -1,4 +1,4 @@
--- The parts of a slice of twice n numbers while its first n are sorted by halves: of t, the n - h numbers from index h on are sorted where they
+-- The parts of a list of twice n numbers while its first n are sorted by halves: of t, the n - h numbers from index h on are sorted where they
 -- stand, the first h are moved behind all n and sorted there, and the two are merged.
 -- Assumes nothing.
 use Rattle.std.specs.Prelude.{◌≡◌, refl, List, [], ◌∷◌, ◌++◌, ℕ, ◌+◌, ◌-◌, ◌≤◌, ◌<◌, length, take, drop, replicate}

@@ -1,29 +1,15 @@
--- `byte_numbers::read_le16`. Its two bytes, each below 256.
+-- `byte_numbers::read_le16`. The number that its two bytes spell.
 -- Assumes nothing.
+use mathlib.Core.Path.{ap, ◌∙◌}
 use Prim.Native.Nat.{◌+◌}
 use native.Mathlib.Omega.{arith}
-use Rattle.slices.specs.NumberLaws.{unle-two}
+use Rattle.std.specs.Int.{from_le_bytes, w16}
+use Rattle.byte_numbers.proofs.Digits.{part-whole, unle-two}
 use Rattle.byte_numbers.proofs.read_le16.Goals as goal
 
-pub overflow_cast-result : goal.overflow_cast-result
-overflow_cast-result c =
-    let a = c.args in
-    omega (arith, c.type_inv.s a.at)
-
-pub overflow_cast-result-2 : goal.overflow_cast-result-2
-overflow_cast-result-2 c =
-    let a = c.args in
-    omega (arith, c.type_inv.s (a.at + 1))
-
-pub overflow_mul-result : goal.overflow_mul-result
-overflow_mul-result c =
-    let a = c.args in
-    omega (arith, c.type_inv.s (a.at + 1))
-
-pub overflow_add-result-2 : goal.overflow_add-result-2
-overflow_add-result-2 c =
-    let a = c.args in
-    omega (arith, c.shared_slice_known-1.given a.at, c.type_inv.s (a.at + 1))
-
 pub returns : goal.returns
-returns c = unle-two c.args.s.now c.args.at c.requires
+returns c =
+    let a = c.args in
+    let whole = rw c.unwrap.ensures at c.try_into.ensures.1 in
+    let bytes = part-whole a.s.now c.unwrap.result a.at (a.at + 2) 2 (omega arith) whole in
+    c.from_le_bytes.ensures ∙ ap (from_le_bytes w16) bytes ∙ unle-two a.s.now a.at c.requires

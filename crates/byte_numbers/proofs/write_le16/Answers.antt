@@ -1,15 +1,15 @@
--- `byte_numbers::write_le16`. Its two digits to the base 256.
+-- `byte_numbers::write_le16`. The library's bytes, put back in their place.
 -- Assumes nothing.
+use mathlib.Core.Path.{◌∙◌}
+use Prim.Native.Nat.{◌+◌}
 use native.Mathlib.Omega.{arith}
-use lib.ListN.{length-set}
-use Rattle.slices.specs.NumberLaws.{paste-le-two}
+use Rattle.base.specs.Bytes.{le16}
+use Rattle.base.specs.Laws.{length_digits}
+use Rattle.byte_numbers.proofs.Digits.{le-two, put-back}
 use Rattle.byte_numbers.proofs.write_le16.Goals as goal
 
-pub bounds-out-at-2 : goal.bounds-out-at-2
-bounds-out-at-2 c = simp length-set (omega arith)
-
-pub shape_of-out : goal.shape_of-out
-shape_of-out c = simp length-set
-
 pub returns : goal.returns
-returns c = paste-le-two c.args.out.now c.args.at c.args.x (omega arith) c.requires
+returns c =
+    let a = c.args in
+    let f = c.copy_from_slice in
+    put-back a.out.now f.new.self (le16 a.x) a.at (a.at + 2) 2 (omega arith) (f.ensures.after ∙ c.to_le_bytes.ensures ∙ le-two a.x) (length_digits 256 2 a.x)

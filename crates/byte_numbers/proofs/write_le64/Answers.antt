@@ -1,11 +1,15 @@
--- `byte_numbers::write_le64`. Two pastes side by side, of the digits of its two halves.
+-- `byte_numbers::write_le64`. The library's bytes, put back in their place.
 -- Assumes nothing.
 use mathlib.Core.Path.{◌∙◌}
+use Prim.Native.Nat.{◌+◌}
 use native.Mathlib.Omega.{arith}
-use Rattle.slices.specs.NumberLaws.{paste-le}
+use Rattle.base.specs.Bytes.{le64}
+use Rattle.base.specs.Laws.{length_digits}
+use Rattle.byte_numbers.proofs.Digits.{le-eight, put-back}
 use Rattle.byte_numbers.proofs.write_le64.Goals as goal
 
 pub returns : goal.returns
 returns c =
     let a = c.args in
-    c.write_le32-2.ensures ∙ paste-le a.out.now c.write_le32.new.out a.at 4 4 a.x (omega arith) c.write_le32.ensures
+    let f = c.copy_from_slice in
+    put-back a.out.now f.new.self (le64 a.x) a.at (a.at + 8) 8 (omega arith) (f.ensures.after ∙ c.to_le_bytes.ensures ∙ le-eight a.x) (length_digits 256 8 a.x)

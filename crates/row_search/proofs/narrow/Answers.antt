@@ -1,37 +1,37 @@
-use Prim.Native.Nat.{◌+◌, ◌*◌, ◌-◌, ◌/◌, ◌<◌}
-use native.Mathlib.Omega.{arith}
-use native.Mathlib.Nat.{mul-lt-mul_of_pos_right}
-use Rattle.rows.specs.Keys.{keys, first_word}
+-- `row_search::narrow`. A row that is below the key stands before its place, and another stands there or behind it.
+use Rattle.std.proofs.Common.{◌+◌, ◌-◌, ◌/◌, arith, ltb-true, ltb-false}
+use Rattle.rows.specs.Keys.{keys}
+use Rattle.rows.proofs.TableLaws.{row_fits}
 use Rattle.rows.proofs.KeyLaws.{place-le, length-keys}
-use Rattle.rows.proofs.SearchLaws.{row_below, row_from}
+use Rattle.rows.proofs.SearchLaws.{key_from, key_below}
 use Rattle.row_search.proofs.narrow.Goals as goal
 
--- the row in the middle lies in the table
-bound : (c : goal.In-loop-hi) → (c.loop-hi.lo + (c.loop-hi.hi - c.loop-hi.lo) / 2) * c.args.w < c.args.n * c.args.w
-bound c = mul-lt-mul_of_pos_right (omega arith) c.requires.0
-
--- the row in the middle lies in the table
-bound-at-After-shared_slice_known-1-unread : (c : goal.After-shared_slice_known-1-unread) → (c.loop-hi.lo + (c.loop-hi.hi - c.loop-hi.lo) / 2) * c.args.w < c.args.n * c.args.w
-bound-at-After-shared_slice_known-1-unread c = mul-lt-mul_of_pos_right (omega arith) c.requires.0
-
 pub loop-hi-init : goal.loop-hi-init
-loop-hi-init c = omega (arith, place-le c.args.key (keys first_word c.args.w c.args.n c.args.t.now), length-keys first_word c.args.w c.args.n c.args.t.now)
+loop-hi-init g c =
+    let a = c.args in
+    let r = g.K.RowKey in
+    omega (arith, place-le (r.number a.key) (keys r.spelt a.w a.n a.t.now), length-keys r.spelt a.w a.n a.t.now)
 
-pub overflow_mul-mid : goal.overflow_mul-mid
-overflow_mul-mid c = omega (arith, bound c)
-
-pub offset_bounds-t-mid : goal.offset_bounds-t-mid
-offset_bounds-t-mid c = omega (arith, bound c)
-
-pub bounds-t-mid : goal.bounds-t-mid
-bounds-t-mid c = omega (arith, bound-at-After-shared_slice_known-1-unread c)
-
-pub loop-hi-preserved-then-t-mid : goal.loop-hi-preserved-then-t-mid
-loop-hi-preserved-then-t-mid c =
+-- the row in the middle lies in the table
+pub read-requires : goal.read-requires
+read-requires g c =
+    let a = c.args in
     let l = c.loop-hi in
-    omega (arith, row_below c.args.w c.args.n c.args.t.now c.args.key c.requires.2 (l.lo + (l.hi - l.lo) / 2) (omega arith) c.if-t-mid.true)
+    let f = row_fits a.w a.n (l.lo + (l.hi - l.lo) / 2) (omega arith) in
+    omega arith
+
+pub loop-hi-preserved-then-is_below : goal.loop-hi-preserved-then-is_below
+loop-hi-preserved-then-is_below g c =
+    let a = c.args in
+    let l = c.loop-hi in
+    let r = g.K.RowKey in
+    let b = ltb-true (r.number c.read.result) (r.number a.key) (rw c.is_below.ensures at c.if-is_below.true) in
+    omega (arith, key_below r.spelt a.w a.n a.t.now (r.number a.key) (l.lo + (l.hi - l.lo) / 2) (omega arith) c.requires.2 (omega (arith, c.read.ensures, b)))
 
 pub loop-hi-preserved : goal.loop-hi-preserved
-loop-hi-preserved c =
+loop-hi-preserved g c =
+    let a = c.args in
     let l = c.loop-hi in
-    omega (arith, row_from c.args.w c.args.n c.args.t.now c.args.key (l.lo + (l.hi - l.lo) / 2) (omega arith) c.if-t-mid.false)
+    let r = g.K.RowKey in
+    let b = ltb-false (r.number c.read.result) (r.number a.key) (rw c.is_below.ensures at c.if-is_below.false) in
+    omega (arith, key_from r.spelt a.w a.n a.t.now (r.number a.key) (l.lo + (l.hi - l.lo) / 2) (omega arith) (omega (arith, c.read.ensures, b)))

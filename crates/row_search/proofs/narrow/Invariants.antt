@@ -1,9 +1,14 @@
-use Prim.Native.Nat.{◌-◌, ◌≤◌}
-use Rattle.rows.specs.Keys.{keys, first_word, place}
+-- `row_search::narrow`. The invariant: the place lies from lo to hi.
+-- Assumes nothing.
+use Rattle.std.proofs.Common.{◌-◌, ◌≤◌}
+use Rattle.rows.specs.Keys.{keys, place}
 use Rattle.row_search.proofs.narrow.Given as goal
 
 abbrev pub invariant-loop-hi : goal.invariant-loop-hi
-invariant-loop-hi l = (l.lo ≤ place l.key (keys first_word l.w l.n l.t)) × (place l.key (keys first_word l.w l.n l.t) ≤ l.hi) × (l.hi ≤ l.n)
+invariant-loop-hi g l =
+    (l.lo ≤ place (g.K.RowKey.number l.key) (keys g.K.RowKey.spelt l.w l.n l.t))
+    × (place (g.K.RowKey.number l.key) (keys g.K.RowKey.spelt l.w l.n l.t) ≤ l.hi)
+    × (l.hi ≤ l.n)
 
 abbrev pub decreases-loop-hi : goal.decreases-loop-hi
-decreases-loop-hi l = l.hi - l.lo
+decreases-loop-hi g l = l.hi - l.lo

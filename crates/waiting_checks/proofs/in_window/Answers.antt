@@ -1,24 +1,13 @@
--- `waiting_checks::in_window` meets its contract: the place reaches the window, and not the next one.
--- Assumes nothing.
-use mathlib.Core.Path.{sym, ap, ◌∙◌}
+-- `waiting_checks::in_window`. The place reaches the window, and not the next one.
+use Rattle.std.proofs.Common.{sym, ap, ◌∙◌}
 use mathlib.Core.Bool.{not}
-use native.Mathlib.Omega.{arith}
 use Rattle.waiting_checks.specs.Marks.{within}
 use Rattle.waiting_checks.proofs.in_window.Goals as goal
 
-pub reaches-requires : goal.reaches-requires
-reaches-requires c = c.requires.0
-
-pub returns-then-not-reaches : goal.returns-then-not-reaches
+pub returns-then-reaches : goal.returns-then-reaches
 unfolding within
-returns-then-not-reaches c = let e = sym c.reaches.ensures ∙ c.if-not-reaches.true in rw e
+returns-then-reaches c = let e = sym c.reaches.ensures ∙ c.if-reaches.true in rw e (ap not c.reaches-then-reaches.ensures)
 
-pub overflow_add-lo : goal.overflow_add-lo
-overflow_add-lo c = omega (arith, c.requires.1, c.requires.0.laid.fits)
-
-pub reaches-requires-2 : goal.reaches-requires-2
-reaches-requires-2 c = c.requires.0
-
-pub returns : goal.returns
+pub returns-else-reaches : goal.returns-else-reaches
 unfolding within
-returns c = let e = sym c.reaches.ensures ∙ c.if-not-reaches.false in rw e (ap not c.reaches-2.ensures)
+returns-else-reaches c = let e = sym c.reaches.ensures ∙ c.if-reaches.false in rw e c.if-reaches.false

@@ -33,9 +33,6 @@ returns-then-not-window_tied c = λ (cs : List ℕ).
     sym (sym (tied-clean c.args.r c.args.es.now c.args.ws.now cs c.requires.0) ∙ l.invariant ∙ next-window key ok l.lo ws
     ∙ ap (λ (b : Bool). b && clean key ok (rows_from key ok (l.lo + 65536) ws)) e)
 
-pub overflow_add-lo : goal.overflow_add-lo
-overflow_add-lo c = omega (arith, c.requires.0.laid.fits)
-
 pub loop-lo-preserved : goal.loop-lo-preserved
 loop-lo-preserved c =
     let l = c.loop-lo in
@@ -54,3 +51,15 @@ returns c = λ (cs : List ℕ).
     let ks = keys first_four 8 c.args.r.entries c.args.es.now in
     sym (sym (tied-clean c.args.r c.args.es.now c.args.ws.now cs c.requires.0) ∙ l.invariant
     ∙ last-window key ok l.lo ws (λ w. omega (arith, place-le (hash_of w.hash) ks, length-keys first_four 8 c.args.r.entries c.args.es.now)))
+
+pub returns-else-not-window_tied : goal.returns-else-not-window_tied
+returns-else-not-window_tied c = λ (cs : List ℕ).
+    let l = c.loop-lo in
+    let key = place_of c.args.r c.args.es.now in
+    let ok = names_at c.args.r c.args.es.now in
+    let ws = rows_of waiting_row c.args.r.waiting c.args.ws.now in
+    let ks = keys first_four 8 c.args.r.entries c.args.es.now in
+    let e = sym c.window_tied.ensures ∙ c.if-not-window_tied.false in
+    sym (sym (tied-clean c.args.r c.args.es.now c.args.ws.now cs c.requires.0) ∙ l.invariant ∙ next-window key ok l.lo ws
+    ∙ ap (λ (b : Bool). b && clean key ok (rows_from key ok (l.lo + 65536) ws)) e
+    ∙ last-window key ok (l.lo + 65536) ws (λ w. omega (arith, place-le (hash_of w.hash) ks, length-keys first_four 8 c.args.r.entries c.args.es.now)))

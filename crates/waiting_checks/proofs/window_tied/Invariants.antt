@@ -1,7 +1,6 @@
 -- `waiting_checks::window_tied` meets its contract. The invariant: all rows pass from no marks exactly where those from row j on pass from the marks so far.
 -- Assumes nothing.
 use mathlib.Core.Path.{◌≡◌}
-use Prim.Native.Nat.{◌-◌, ◌≤◌}
 use lib.ListN.{drop}
 use Rattle.base.specs.Logic.{zeros}
 use Rattle.rows.specs.Table.{rows_of}
@@ -12,7 +11,4 @@ use Rattle.waiting_checks.proofs.window_tied.Given as goal
 
 abbrev pub invariant-loop-j : goal.invariant-loop-j
 invariant-loop-j l =
-    (l.j ≤ l.r.waiting) × (all_pass (place_of l.r l.es) (names_at l.r l.es) l.lo (zeros 1024) (rows_of waiting_row l.r.waiting l.ws) ≡ all_pass (place_of l.r l.es) (names_at l.r l.es) l.lo l.marks (drop l.j (rows_of waiting_row l.r.waiting l.ws)))
-
-abbrev pub decreases-loop-j : goal.decreases-loop-j
-decreases-loop-j l = l.r.waiting - l.j
+    all_pass (place_of l.r l.es) (names_at l.r l.es) l.lo (zeros 1024) (rows_of waiting_row l.r.waiting l.ws) ≡ all_pass (place_of l.r l.es) (names_at l.r l.es) l.lo l.marks (drop l.j (rows_of waiting_row l.r.waiting l.ws))
