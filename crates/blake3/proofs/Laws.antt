@@ -1,13 +1,14 @@
 -- Laws that the proofs cite.
 -- Assumes nothing.
-use mathlib.Core.Path.{◌≡◌, refl, sym, ap, ap₂, ◌∙◌}
-use mathlib.Core.List.{List, [], ◌∷◌, ◌++◌, append_assoc}
-use Prim.Native.Nat.{ℕ, zero, suc, ◌+◌, ◌-◌, ◌*◌, ◌/◌, ◌%◌, ◌≤◌, ◌<◌}
+use mathlib.Core.Path.{◌≡◌, refl, sym, ap, ◌∙◌}
+use mathlib.Core.List.{List, ◌++◌}
+use Prim.Native.Nat.{ℕ, zero, suc, ◌+◌, ◌-◌, ◌*◌, ◌/◌, ◌≤◌, ◌<◌}
 use native.Mathlib.Numerals.{add-one}
 use native.Mathlib.Omega.{arith}
 use borrow.Author.Tests.{le-ltb, lt-ltb}
-use lib.ListN.{length, set, take, drop, length-drop}
-use lib.Seq.{take_all, take-length, take-suc, set_at, length-take-le, drop-drop}
+use lib.ListN.{length, take, drop, length-drop}
+use lib.Seq.{take_all, paste}
+use Rattle.std.proofs.lemmas.List.{drop-replicate}
 use Rattle.base.specs.Logic.{flat, from, zeros}
 use Rattle.base.specs.Bytes.{le32, unle, digits}
 use Rattle.blake3_compress.specs.Spec.{at, compress}
@@ -17,19 +18,14 @@ use Rattle.blake3_compress.specs.FillLaws.{eight}
 
 -- ---- arrays that a loop fills
 
--- the bytes of the word w, as word k of the bytes t
-abbrev pub spell : List ℕ → ℕ → ℕ → List ℕ
-spell t k w =
-    set (set (set (set t (4 * k) (w % 256)) (4 * k + 1) (w / 256 % 256)) (4 * k + 2) (w / 256 / 256 % 256)) (4 * k + 3) (w / 256 / 256 / 256 % 256)
-
 -- the bytes of the first k words
 unfoldable pub spelled : List ℕ → ℕ → List ℕ
 spelled ws zero = zeros 32
-spelled ws (suc k) = spell (spelled ws k) k (at ws k)
+spelled ws (suc k) = paste (spelled ws k) (4 * k) (le32 (at ws k)) 4
 
-pub spelled-more : (ws : List ℕ) (k : ℕ) {t : List ℕ} → t ≡ spelled ws k → spell t k (at ws k) ≡ spelled ws (k + 1)
+pub spelled-more : (ws : List ℕ) (k : ℕ) {t u : List ℕ} → t ≡ spelled ws k → u ≡ paste t (4 * k) (le32 (at ws k)) 4 → u ≡ spelled ws (k + 1)
 unfolding spelled
-spelled-more ws k p = rw (add-one k, p)
+spelled-more ws k p q = rw (add-one k, q, p)
 
 pub spelled-all : (ws : List ℕ) (k : ℕ) {t : List ℕ} → length ws ≡ 8 → k ≡ 8 → t ≡ spelled ws k → t ≡ flat le32 ws
 unfolding spelled from flat digits
@@ -41,20 +37,9 @@ spelled-all ws k p e h = h ∙ ap (spelled ws) e ∙ ap (flat le32) (eight ws p)
 abbrev pub word_of : List ℕ → ℕ → ℕ
 word_of bs i = unle (take 4 (drop (4 * i) bs))
 
--- one byte more of a block that is padded
-pub copied : (bs : List ℕ) (i : ℕ) {t : List ℕ} → i < length bs → length bs ≤ 64 → t ≡ take i bs ++ zeros (64 - i)
-    → set t i (at bs i) ≡ take (i + 1) bs ++ zeros (64 - (i + 1))
-copied bs i h k e =
-    let n = 64 - (i + 1) in
-    let z : 64 - i ≡ suc n = omega arith in
-    ap (λ (u : List ℕ). set u i (at bs i)) (e ∙ ap (λ (j : ℕ). take i bs ++ zeros j) z)
-    ∙ set_at (take i bs) 0 (zeros n) (at bs i) i (length-take-le i bs (omega arith))
-    ∙ sym (append_assoc (take i bs) (at bs i ∷ []) (zeros n))
-    ∙ ap (λ (u : List ℕ). u ++ zeros n) (sym (take-suc bs i 0 h) ∙ ap (λ (j : ℕ). take j bs) (sym (add-one i)))
-
-pub copied_all : (bs : List ℕ) (i : ℕ) {t : List ℕ} → i ≡ length bs → t ≡ take i bs ++ zeros (64 - i) → t ≡ padded bs
-copied_all bs i h e =
-    e ∙ ap (λ (j : ℕ). take j bs ++ zeros (64 - j)) h ∙ ap (λ (u : List ℕ). u ++ zeros (64 - length bs)) (take-length bs)
+-- the bytes of a block that is padded, over as many of its zeros
+pub padded-over : (bs : List ℕ) {t : List ℕ} → t ≡ bs → t ++ drop (length bs) (zeros 64) ≡ padded bs
+padded-over bs e = rw (e, drop-replicate)
 
 -- ---- the left part
 
@@ -78,37 +63,28 @@ doubles (suc f) n w h p e =
 unfoldable pub blocks : ℕ → ℕ → ℕ → ℕ → List ℕ → List ℕ → List ℕ
 blocks flags top counter first cv bs = chain flags counter top first ((length bs - 1) / 64) cv bs
 
-module _ (flags top counter first : ℕ) (cv s : List ℕ) (i : ℕ) where
+module _ (flags top counter first : ℕ) (cv bs : List ℕ) where
   -- one block more
-  pub one_block : {m next r : List ℕ} → 64 < length s - i → blocks flags top counter first cv (drop i s) ≡ r
-      → m ≡ block_words (take (i + 64 - i) (drop i s)) → next ≡ compress cv m counter 64 (flags + first)
-      → blocks flags top counter 0 next (drop (i + 64) s) ≡ r
+  pub one_block : {m next r : List ℕ} → 64 < length bs → blocks flags top counter first cv bs ≡ r
+      → m ≡ block_words (take 64 bs) → next ≡ compress cv m counter 64 (flags + first) → blocks flags top counter 0 next (drop 64 bs) ≡ r
   unfolding blocks chain
   one_block h e p q =
-      let n : i + 64 - i ≡ 64 = omega arith in
-      let l = length-drop i s in
-      let l' = length-drop (i + 64) s in
-      let k' = (length (drop (i + 64) s) - 1) / 64 in
-      let k : (length (drop i s) - 1) / 64 ≡ suc k' = omega arith in
-      ap₂ (λ (w t : List ℕ). chain flags counter top 0 k' w t)
-      (q ∙ ap (λ (w : List ℕ). compress cv w counter 64 (flags + first)) (p ∙ ap (λ (j : ℕ). block_words (take j (drop i s))) n))
-      (sym (drop-drop 64 i s))
-      ∙ ap (λ (j : ℕ). chain flags counter top first j cv (drop i s)) (sym k)
+      let l = length-drop 64 bs in
+      let k' = (length (drop 64 bs) - 1) / 64 in
+      let k : (length bs - 1) / 64 ≡ suc k' = omega arith in
+      ap (λ (w : List ℕ). chain flags counter top 0 k' w (drop 64 bs)) (q ∙ ap (λ (w : List ℕ). compress cv w counter 64 (flags + first)) p)
+      ∙ ap (λ (j : ℕ). chain flags counter top first j cv bs) (sym k)
       ∙ e
 
   -- the last block
-  pub last_block : {m r v : List ℕ} → length s - i ≤ 64 → blocks flags top counter first cv (drop i s) ≡ r
-      → m ≡ block_words (padded (take (length s - i) (drop i s))) → v ≡ compress cv m counter (length s - i) (flags + first + chunk_end + top)
-      → v ≡ r
+  pub last_block : {m r v : List ℕ} → length bs ≤ 64 → blocks flags top counter first cv bs ≡ r
+      → m ≡ block_words (padded bs) → v ≡ compress cv m counter (length bs) (flags + first + chunk_end + top) → v ≡ r
   unfolding blocks chain
   last_block h e p q =
-      let l = length-drop i s in
-      let k : (length (drop i s) - 1) / 64 ≡ 0 = omega arith in
+      let k : (length bs - 1) / 64 ≡ 0 = omega arith in
       q
-      ∙ ap₂ (λ (w : List ℕ) (n : ℕ). compress cv w counter n (flags + first + chunk_end + top))
-      (p ∙ ap (λ (t : List ℕ). block_words (padded t)) (take_all (length s - i) (drop i s) (omega arith)))
-      (sym l)
-      ∙ ap (λ (j : ℕ). chain flags counter top first j cv (drop i s)) (sym k)
+      ∙ ap (λ (w : List ℕ). compress cv w counter (length bs) (flags + first + chunk_end + top)) p
+      ∙ ap (λ (j : ℕ). chain flags counter top first j cv bs) (sym k)
       ∙ e
 
 -- ---- the tree

@@ -1,13 +1,15 @@
--- A mode's hash is the one from its start, and has 32 bytes; which keys are bad.
+-- A mode's hash is the one from its start, and has 32 bytes; which keys are bad, and what a call makes of them.
 -- Assumes nothing.
-use Rattle.std.specs.Prelude.{◌≡◌, refl, ◌↔◌, Bool, true, false, not, List, ℕ, length, eqb}
+use Rattle.std.specs.Prelude.{◌≡◌, refl, ◌↔◌, Bool, true, false, not, List, ℕ, length, eqb, Ok, Err}
 use Rattle.std.proofs.Common.{sym, ap, ◌∙◌, eq-eqb, ne_eqb, eqb-true}
 use Rattle.std.proofs.lemmas.Bool.{false≢true}
 use Rattle.base.specs.Logic.{pick}
+use Rattle.base.specs.declared.Refusal.{Refusal}
+use Rattle.base.specs.declared.Refusal.TheVariants.{BadSetting}
 use Rattle.blake3.specs.declared.Start.{Start}
 use Rattle.blake3.specs.Spec.{keyed_hash, keyed, hash}
 use Rattle.blake3.specs.Equations.{length-hash_with}
-use Rattle.blake3.specs.Mode.{Mode, mode_of, bad_key, hash_by, start_of, hash_from}
+use Rattle.blake3.specs.Mode.{Mode, mode_of, bad_key, hash_by, start_of, start_call, hash_from}
 
 -- hashing from a mode's start is hashing in that mode
 from_start : (m : Mode) → hash_from (start_of m) ≡ hash_by m
@@ -45,3 +47,20 @@ key-length key e = go (eqb (length key) 32) refl e
     go : (b : Bool) → eqb (length key) 32 ≡ b → not b ≡ false → length key ≡ 32
     go true f g = eqb-true (length key) 32 f
     go false f g = absurd (false≢true (sym g))
+
+-- a call is refused exactly where the key is bad, and starts from the mode's start where it isn't
+pub start-refused : (m : Mode) {r : Refusal} → Err r ≡ start_call m → (bad_key m ≡ true) × (r ≡ BadSetting)
+unfolding start_call
+start-refused m {r} = go (bad_key m) refl
+  where
+    go : (b : Bool) → bad_key m ≡ b → Err r ≡ pick b (Err BadSetting) (Ok (start_of m)) → (bad_key m ≡ true) × (r ≡ BadSetting)
+    go true f g = (f, cc)
+    go false f g = absurd (cc)
+
+pub start-taken : (m : Mode) {w : Start} → Ok w ≡ start_call m → (bad_key m ≡ false) × (w ≡ start_of m)
+unfolding start_call
+start-taken m {w} = go (bad_key m) refl
+  where
+    go : (b : Bool) → bad_key m ≡ b → Ok w ≡ pick b (Err BadSetting) (Ok (start_of m)) → (bad_key m ≡ false) × (w ≡ start_of m)
+    go true f g = absurd (cc)
+    go false f g = (f, cc)

@@ -1,6 +1,6 @@
 -- Laws that the proofs cite.
 -- Assumes nothing.
-use Rattle.std.proofs.Common.{◌≡◌, ℕ, zero, suc, ◌+◌, ◌/◌, ◌%◌, ◌^◌, ◌<◌, Bool, true, ◌&&◌, eqb, ltb, List, [], ◌∷◌, ◌++◌, map, length, get_or, set, sym, refl, ap, ◌∙◌, ap₂, add-one, arith, ltb-true, eqb-true}
+use Rattle.std.proofs.Common.{◌≡◌, ℕ, zero, suc, ◌+◌, ◌/◌, ◌%◌, ◌^◌, ◌<◌, Bool, true, ◌&&◌, eqb, ltb, List, [], ◌∷◌, ◌++◌, map, length, get_or, set, sym, refl, ap, ◌∙◌, arith, ltb-true, eqb-true}
 use lib.Bits.{bit_xor}
 use Rattle.base.specs.Logic.{all, from, fold, zeros}
 use Rattle.base.specs.Laws.{and_left, and_right}
@@ -80,21 +80,6 @@ entry {t} e r i p q =
     let xs = get_or schedule r [] in
     let n = eqb-true (length xs) 16 (and_left (eqb (length xs) 16) (all (λ x. ltb x 16) xs) w) in
     rw e (below 16 xs (and_right (eqb (length xs) 16) (all (λ x. ltb x 16) xs) w) i (omega arith))
-
--- ---- arrays that a loop fills
-
--- the first k words of l, and as many of r from place 8
-unfoldable pub beside : List ℕ → List ℕ → ℕ → List ℕ
-beside l r zero = zeros 16
-beside l r (suc k) = set (set (beside l r k) k (at l k)) (k + 8) (at r k)
-
-pub beside-more : (l r : List ℕ) (k : ℕ) {t : List ℕ} → t ≡ beside l r k → set (set t k (at l k)) (k + 8) (at r k) ≡ beside l r (k + 1)
-unfolding beside
-beside-more l r k p = rw add-one (cc)
-
-pub beside-all : (l r : List ℕ) (k : ℕ) {t : List ℕ} → length l ≡ 8 → length r ≡ 8 → k ≡ 8 → t ≡ beside l r k → t ≡ l ++ r
-unfolding beside from
-beside-all l r k p q e h = h ∙ ap (beside l r) e ∙ ap₂ (λ (x y : List ℕ). x ++ y) (eight l p) (eight r q)
 
 -- ---- compression
 

@@ -1,8 +1,10 @@
 -- Arrays that a loop fills.
 -- Assumes nothing.
-use Rattle.std.specs.Prelude.{◌≡◌, ℕ, zero, suc, ◌+◌, ◌≤◌, List, ◌∷◌, map, length, take, drop, slice_set, refl}
-use Rattle.std.proofs.Common.{ap, ◌∙◌, add-one, arith, take_all, drop-cons}
+use Rattle.std.specs.Prelude.{◌≡◌, ℕ, zero, suc, ◌+◌, ◌≤◌, List, [], ◌∷◌, ◌++◌, map, length, take, drop, slice_set, refl}
+use Rattle.std.proofs.Common.{sym, ap, ◌∙◌, zero-add, add-one, arith, append_assoc, append-nil, take_all, drop-cons}
+use Rattle.std.proofs.lemmas.List.{length-map, map-append, set_at}
 use Rattle.base.specs.Logic.{from, zeros}
+use Rattle.base.specs.ListLaws.{length_from, from-append}
 use Rattle.blake3_compress.specs.Spec.{at}
 
 -- the first k items are what f gives
@@ -25,10 +27,24 @@ items xs i (suc n) h =
 pub eight : (ws : List ℕ) → length ws ≡ 8 → map (at ws) (from 0 8) ≡ ws
 eight ws h = items ws 0 8 (omega arith) ∙ take_all 8 ws (omega arith)
 
-pub filled-8 : (f : ℕ → ℕ) (k : ℕ) {t : List ℕ} → k ≡ 8 → t ≡ filled f k (zeros 8) → t ≡ map f (from 0 8)
+-- the first k of k + m zeros, filled
+filled-part : (f : ℕ → ℕ) (k m : ℕ) → filled f k (zeros (k + m)) ≡ map f (from 0 k) ++ zeros m
 unfolding filled from
-filled-8 f k e h = h ∙ ap (λ (n : ℕ). filled f n (zeros 8)) e
+filled-part f zero m = ap zeros (zero-add m)
+filled-part f (suc k) m =
+    let p = map f (from 0 k) in
+    let e : suc k + m ≡ k + suc m = omega arith in
+    let n : length p ≡ k = length-map (from 0 k) f ∙ length_from 0 k in
+    let s : from 0 (suc k) ≡ from 0 k ++ from (0 + k) 1 = ap (from 0) (sym (add-one k)) ∙ from-append 0 k 1 in
+    let w : map f (from 0 (suc k)) ≡ p ++ f k ∷ [] = ap (map f) (s ∙ ap (λ (j : ℕ). from 0 k ++ j ∷ []) (zero-add k)) ∙ map-append f (from 0 k) (k ∷ []) in
+    ap (λ (j : ℕ). slice_set (filled f k (zeros j)) k (f k)) e
+    ∙ ap (λ (t : List ℕ). slice_set t k (f k)) (filled-part f k (suc m))
+    ∙ set_at p 0 (zeros m) (f k) k n
+    ∙ sym (append_assoc p (f k ∷ []) (zeros m))
+    ∙ ap (λ (u : List ℕ). u ++ zeros m) (sym w)
 
-pub filled-16 : (f : ℕ → ℕ) (k : ℕ) {t : List ℕ} → k ≡ 16 → t ≡ filled f k (zeros 16) → t ≡ map f (from 0 16)
-unfolding filled from
-filled-16 f k e h = h ∙ ap (λ (n : ℕ). filled f n (zeros 16)) e
+-- n zeros, all filled
+pub filled-all : (f : ℕ → ℕ) (k n : ℕ) {t : List ℕ} → k ≡ n → t ≡ filled f k (zeros n) → t ≡ map f (from 0 n)
+filled-all f k n {t} p e =
+    let z : n ≡ n + 0 = omega arith in
+    e ∙ ap (λ (j : ℕ). filled f j (zeros n)) p ∙ ap (λ (j : ℕ). filled f n (zeros j)) z ∙ filled-part f n 0 ∙ append-nil _

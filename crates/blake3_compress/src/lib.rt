@@ -53,6 +53,7 @@ fn g(v: &mut [u32; 16], a: usize, b: usize, c: usize, d: usize, x: u32, y: u32)
 
 // The message word at place i of round r. t is the schedule: it is handed down, since a constant that is indexed is
 // copied first.
+#[tactic(auto, using(crate::proofs::Laws::entry))]
 fn word(m: &[u32; 16], t: &[[u8; 16]; 7], r: usize, i: usize) -> u32
     requires { (t.now ≡ schedule) × (r < 7) × (i < 16) }
     ensures { result ≡ scheduled m.now r i }
@@ -84,6 +85,7 @@ fn diagonals(v: &mut [u32; 16], m: &[u32; 16], t: &[[u8; 16]; 7], r: usize)
 
 // The seven rounds. Written out by halves, which are small enough for the compiler to put in place, the schedule's
 // entries become constants; a loop that reads the table is a tenth slower.
+#[tactic(auto, unfolding(crate::specs::Spec::schedule))]
 fn rounds(v: &mut [u32; 16], m: &[u32; 16])
     ensures { v.new ≡ rounds m.now v.old }
 {
@@ -109,12 +111,8 @@ pub fn joined(l: [u32; 8], r: [u32; 8]) -> [u32; 16]
     ensures { result ≡ l ++ r }
 {
     let mut m = [0u32; 16];
-    let mut i = 0;
-    while i < 8 {
-        m[i] = l[i];
-        m[i + 8] = r[i];
-        i += 1;
-    }
+    m[..8].copy_from_slice(&l);
+    m[8..].copy_from_slice(&r);
     m
 }
 
@@ -138,10 +136,8 @@ pub fn compress(cv: &mut [u32; 8], m: &[u32; 16], counter: u64, block_len: u32, 
     let mut v = start(*cv, counter, block_len, flags);
     rounds(&mut v, m);
     let mut next = [0u32; 8];
-    let mut i = 0;
-    while i < 8 {
+    for i in 0..8 {
         next[i] = v[i] ^ v[i + 8];
-        i += 1;
     }
     *cv = next;
 }

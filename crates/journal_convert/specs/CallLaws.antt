@@ -5,14 +5,14 @@ use Rattle.std.proofs.Math.ListN.{length}
 use borrow.Author.Tests.{le-ltb, lt-ltb}
 use Rattle.base.specs.Logic.{overlay}
 use Rattle.base.specs.declared.Refusal.TheVariants.{OutputFull}
-use Rattle.base.specs.declared.Answer.TheVariants.{Taken, Refused}
-use Rattle.journal.specs.declared.Converted.{Converted}
+use Rattle.base.specs.Answers.{Taken, Refused}
+use Rattle.journal.specs.Returned.{ConvertedAnswer}
 use Rattle.journal.specs.Convert.{convert, effect, converted_out, convert_call}
 use Rattle.journal_convert.specs.declared.Sizes.{Sizes}
 use Rattle.journal_convert.specs.Rewriting.{list_bytes, sizes_of}
 
 -- what stands beside the refusal
-abbrev pub full : Converted
+abbrev pub full : ConvertedAnswer
 full = record { answer = Refused OutputFull; len = 0; dropped_len = 0 }
 
 module _ (hash : List ℕ → List ℕ) (s out dropped : List ℕ) (z : Sizes) (e : z ≡ sizes_of hash s) where

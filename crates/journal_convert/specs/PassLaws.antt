@@ -7,17 +7,16 @@ use native.Mathlib.Omega.{arith}
 use Rattle.std.proofs.Math.ListN.{length, length-drop}
 use Rattle.base.specs.Logic.{flat, overlay}
 use Rattle.base.specs.SpellLaws.{Bytes}
-use Rattle.base.specs.Answers.{Outcome, refused, taken}
+use Rattle.base.specs.Answers.{Outcome, refused, taken, Taken, Refused}
 use Rattle.base.specs.AnswerLaws.{not-refused}
 use Rattle.base.specs.declared.Refusal.{Refusal}
-use Rattle.base.specs.declared.Answer.TheVariants.{Taken, Refused}
 use Rattle.slices.specs.Laws.{length_part}
 use Rattle.slices.specs.Places.{put_at}
 use Rattle.slices.specs.PlaceLaws.{put_at-none, Filling, filling-start, filling-next, filled}
-use Rattle.format.specs.declared.Decoded.{Decoded}
-use Rattle.format.specs.Record.{Decoding, used_bytes, parse, Whole, Matches}
+use Rattle.format.specs.Returned.{Decoded}
+use Rattle.format.specs.Record.{Decoding, used_bytes, parse, stated_hash, Whole, Matches}
 use Rattle.format.specs.Calls.{decoded_of, parse_call}
-use Rattle.format.proofs.RefusalLaws.{parse-taken}
+use Rattle.format.proofs.RefusalLaws.{parse-taken, parse-known}
 use Rattle.journal.specs.Convert.{Conversion, convert}
 use Rattle.journal.proofs.ConvertLaws.{convert-refused}
 use Rattle.journal_convert.specs.declared.Sizes.{Sizes}
@@ -112,6 +111,26 @@ module _ (hash : List ℕ → List ℕ) (s : List ℕ) where
 
         pub later-turn : place < stop_ahead hash s place → Turn hash s place q.stats.payload_bytes (used_bytes q.stats)
         later-turn h = let (d, i) = stop-later hash place rest h in turned d i
+
+  -- the record that the second pass reads at a place before the stop, its hash taken on trust: the first pass took it
+  module _ (z : Sizes) (e : z ≡ sizes_of hash s) {out₀ rows₀ out rows : List ℕ} {place at to : ℕ} (x : Writing out₀ rows₀ out rows place at to) (more : place < z.stop) where
+    abbrev part : List ℕ
+    part = take (length s - place) (drop place s)
+
+    ahead-of-stop : place < stop_ahead hash s place
+    ahead-of-stop = omega (arith, stop-known z e, x.stops)
+
+    module _ (q : Decoded) (read : q ≡ parse_call (stated_hash part) part) where
+      by-hash : q ≡ parse_call hash part
+      unfolding parse_call
+      by-hash = read ∙ ap decoded_of (parse-known hash part (known place x.inside ahead-of-stop))
+
+      pub held-taken : q.answer ≡ Taken
+      unfolding decoded_of
+      held-taken = let (d, i) = stop-later hash place (drop place s) ahead-of-stop in ap (λ (y : Decoded). y.answer) (says place x.inside q by-hash (taken d) i)
+
+      pub held-turn : Bytes s → Turn hash s place q.stats.payload_bytes (used_bytes q.stats)
+      held-turn b = later-turn place x.inside q by-hash b ahead-of-stop
 
   -- ---- one record more
   module _ (long : (b : List ℕ) → length (hash b) ≡ 32) (place n used : ℕ) (t : Turn hash s place n used) where

@@ -1,6 +1,6 @@
 -- What the passes over a journal measure and write.
 -- Assumes nothing.
-use Rattle.std.specs.Prelude.{ℕ, zero, suc, ◌+◌, ◌≤◌, ◌≡◌, List, [], ◌∷◌, ◌++◌, length, take, drop, eqb}
+use Rattle.std.specs.Prelude.{ℕ, zero, suc, ◌+◌, ◌≤◌, ◌≡◌, List, [], ◌∷◌, length, take, drop, eqb}
 use Rattle.base.specs.Logic.{pick, flat}
 use Rattle.base.specs.Answers.{either}
 use Rattle.format.specs.Record.{sealed, parse}

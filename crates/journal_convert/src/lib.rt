@@ -9,14 +9,15 @@ ghost use Rattle.base.specs.Logic.{overlay};
 ghost use Rattle.slices.specs.Places.{put_at};
 ghost use Rattle.blake3.specs.Spec.{hash};
 ghost use Rattle.format.specs.Record.{sealed};
+ghost use Rattle.journal.specs.Returned.{as_converted};
 ghost use Rattle.journal.specs.Convert.{convert, effect, convert_call};
 ghost use Rattle.journal_convert.specs.Rewriting.{list_bytes, sizes_of, Kept, listed};
 
-use base::{Answer, Refusal};
+use base::Refusal;
 use byte_numbers::write_le64;
-use byte_slices::copy_at;
 use journal::Converted;
 use record_read::{parse_record, parse_record_held};
+use slices::copy_at;
 
 // How far records are taken one after another, and the bytes of the new journal and of the list.
 #[derive(Clone, Copy)]
@@ -33,16 +34,7 @@ fn measure(s: &[u8]) -> Sizes
     let mut place = 0;
     let mut len = 0;
     let mut dropped_len = 0;
-    loop {
-        let d = parse_record(&s[place..]);
-        let answer = d.answer;
-        if let Answer::Refused(_) = answer {
-            break Sizes {
-                stop: place,
-                len: len + (s.len() - place),
-                dropped_len,
-            };
-        }
+    while let Ok(d) = parse_record(&s[place..]) {
         let n = d.stats.payload_bytes as usize;
         let used = (d.stats.metadata_bytes + d.stats.cell_bytes) as usize;
         len += 40 + used;
@@ -50,6 +42,11 @@ fn measure(s: &[u8]) -> Sizes
             dropped_len += 16;
         }
         place += 40 + n;
+    }
+    Sizes {
+        stop: place,
+        len: len + (s.len() - place),
+        dropped_len,
     }
 }
 
@@ -93,7 +90,8 @@ fn list_dropped(dropped: &mut [u8], at: usize, place: usize, count: usize) -> us
     at + 16
 }
 
-// Both outputs, which have room: the records before the stop without their leftovers, then the rest of s as it is; and the list.
+// Both outputs, which have room: the records before the stop, which the first pass took, without their leftovers, then the rest of s as it is; and
+// the list.
 fn rewrite(s: &[u8], sizes: Sizes, out: &mut [u8], dropped: &mut [u8])
     requires { (sizes ≡ sizes_of hash s.now) × (sizes.len ≤ length out.old) × (sizes.dropped_len ≤ length dropped.old) }
     ensures { (out.new ≡ overlay (convert hash s.now).bytes out.old) × (dropped.new ≡ overlay (list_bytes (convert hash s.now)) dropped.old) }
@@ -103,7 +101,7 @@ fn rewrite(s: &[u8], sizes: Sizes, out: &mut [u8], dropped: &mut [u8])
     let mut at = 0;
     let mut to = 0;
     while place < stop {
-        let d = parse_record_held(&s[place..]);
+        let d = parse_record_held(&s[place..]).unwrap();
         let n = d.stats.payload_bytes as usize;
         let used = (d.stats.metadata_bytes + d.stats.cell_bytes) as usize;
         let next = place + (40 + n);
@@ -116,27 +114,18 @@ fn rewrite(s: &[u8], sizes: Sizes, out: &mut [u8], dropped: &mut [u8])
 }
 
 // Rewrites the journal s without leftovers into one output, and lists in the other what was dropped.
-pub fn convert_journal(s: &[u8], out: &mut [u8], dropped: &mut [u8]) -> Converted
-    ensures { effect result out.new dropped.new ≡ convert_call hash s.now out.old dropped.old }
+pub fn convert_journal(s: &[u8], out: &mut [u8], dropped: &mut [u8]) -> Result<Converted, Refusal>
+    ensures { effect (as_converted result) out.new dropped.new ≡ convert_call hash s.now out.old dropped.old }
 {
     let sizes = measure(s);
     let len = sizes.len;
     let dropped_len = sizes.dropped_len;
-    let full = Converted {
-        answer: Answer::Refused(Refusal::OutputFull),
-        len: 0,
-        dropped_len: 0,
-    };
     if out.len() < len {
-        return full;
+        return Err(Refusal::OutputFull);
     }
     if dropped.len() < dropped_len {
-        return full;
+        return Err(Refusal::OutputFull);
     }
     rewrite(s, sizes, out, dropped);
-    Converted {
-        answer: Answer::Taken,
-        len,
-        dropped_len,
-    }
+    Ok(Converted { len, dropped_len })
 }

@@ -9,14 +9,12 @@ use native.Mathlib.Omega.{arith}
 use Rattle.std.proofs.Math.ListN.{length, drop, length-drop}
 use Rattle.std.proofs.Math.Seq.{drop-drop, drop-length}
 use Rattle.base.specs.Logic.{sum_of}
-use Rattle.base.specs.Answers.{Outcome, refused, taken}
+use Rattle.base.specs.Answers.{Outcome, refused, taken, Answer, Taken, Refused}
 use Rattle.base.specs.AnswerLaws.{not-refused}
 use Rattle.base.specs.declared.Refusal.{Refusal}
 use Rattle.base.specs.declared.Refusal.TheVariants.{Damaged, BadSetting}
-use Rattle.base.specs.declared.Answer.{Answer}
-use Rattle.base.specs.declared.Answer.TheVariants.{Taken, Refused}
 use Rattle.cell_nursery.specs.declared.Nursery.{Nursery}
-use Rattle.cell_nursery.specs.declared.Committed.{Committed}
+use Rattle.cell_nursery.specs.Returned.{Committed}
 use Rattle.cell_nursery.specs.Entries.{State, empty, cell_bytes}
 use Rattle.cell_nursery.specs.Delta.{Room, apply_delta}
 use Rattle.cell_nursery.specs.Layout.{record_of, entries_table, waiting_table, cells_table, room_of, state_of, delay_in_range, holds}
@@ -31,14 +29,16 @@ use Rattle.format.specs.Record.{Decoding, decode}
 use Rattle.format.proofs.RefusalLaws.{decode-known}
 use Rattle.format.specs.Record.{stated_hash}
 use Rattle.format.proofs.TakenLaws.{taken-lent}
-use Rattle.journal.specs.declared.JournalRead.{JournalRead}
-use Rattle.journal.specs.declared.JournalScan.{JournalScan}
+use Rattle.journal.specs.Returned.{ReadAnswer, ScanAnswer}
 use Rattle.journal.specs.Journal.{records_from, scan, damages, damaged, apply_record, read_journal, effect, not_read, read_out, read_call}
 use Rattle.journal.proofs.ReadLaws.{RecordRefused, record-refused, record-taken, records_in, records-taken, records-refused, same-records, read-bad, read-damaged}
 use Rattle.journal_laws.specs.DeltaLaws.{delta-read, delta-fits, taken-accepted}
 use Rattle.journal_laws.specs.EndLaws.{Reached, start, reached-next, undamaged-matches}
-use Rattle.journal_read.specs.declared.Step.{Step}
-use Rattle.journal_read.specs.Reading.{Stepped, stepped, beside, record_on, record_call, apply_held, read_on}
+use Rattle.journal_read.specs.Reading.{StepAnswer, len_beside, Stepped, stepped, beside, record_on, record_call, apply_held, read_on}
+
+len-most : (a : Answer) (n : ℕ) → len_beside a n ≤ n
+len-most Taken n = omega arith
+len-most (Refused x) n = omega arith
 
 -- ---- between two records
 -- a journal that is read on from what a record and tables hold
@@ -85,7 +85,7 @@ module _ (s : List ℕ) (r₀ : Nursery) (es₀ ws₀ cs₀ : List ℕ) where
     finished e = rw (← e) (closed Taken (rw (e, drop-length s)))
 
     -- what a record at this place did; the bytes from there on are lent as a part of the journal
-    module _ (more : place < length s) (u : U8 s) (q : Step) (es' ws' cs' : List ℕ) (e : stepped q es' ws' cs' ≡ record_call r es ws cs (take (length s - place) (drop place s))) where
+    module _ (more : place < length s) (u : U8 s) (q : StepAnswer) (es' ws' cs' : List ℕ) (e : stepped q es' ws' cs' ≡ record_call r es ws cs (take (length s - place) (drop place s))) where
       abbrev rest : List ℕ
       rest = drop place s
 
@@ -101,14 +101,15 @@ module _ (s : List ℕ) (r₀ : Nursery) (es₀ ws₀ cs₀ : List ℕ) where
 
       -- it ends in the journal, also where its delta is refused
       pub reach : place + q.len ≤ length s
-      unfolding record_call record_on
+      unfolding record_call record_on laid_out
       reach = go (decode hash rest) refl on-rest
         where
           go : (o : Outcome Decoding) → decode hash rest ≡ o → stepped q es' ws' cs' ≡ record_on r es ws cs o → place + q.len ≤ length s
           go (refused y) i f = let n : q.len ≡ 0 = ap (λ (z : Stepped). z.result.len) f in omega arith
           go (taken d) i f =
-              let n : q.len ≡ 40 + d.stats.payload_bytes = ap (λ (z : Stepped). z.result.len) f in
-              omega (arith, (taken-lent hash rest d i).inside, length-drop place s)
+              let n = ap (λ (z : Stepped). z.result.len) f in
+              let most = len-most (laid_out r.delay r es ws cs (apply_delta (room_of es ws cs) here d.delta)).result.answer (40 + d.stats.payload_bytes) in
+              omega (arith, n, most, (taken-lent hash rest d i).inside, length-drop place s)
 
       -- it was refused, or its delta was: nothing changed
       pub stopped : (a : Refusal) → q.answer ≡ Refused a → effect (record { answer = Taken; nursery = q.nursery; applied = applied; place = place; ended = q.answer }) es' ws' cs' ≡ read_on r₀ es₀ ws₀ cs₀ s
@@ -253,12 +254,12 @@ module _ (hash : List ℕ → List ℕ) (s : List ℕ) where
           let (d, i, j, k) = (record-taken hash m t rest u n).0 f in
           (ap (λ (l : List ℕ). drop (40 + n) l) e ∙ drop-drop (40 + n) place s, reached-next hash s n d r (ap (decode hash) (sym e) ∙ i) k)
 
-  pub pass-says : (x : JournalScan) (b : Bool) → x ≡ scan hash s → b ≡ damages x.ended → damaged hash s ≡ b
+  pub pass-says : (x : ScanAnswer) (b : Bool) → x ≡ scan hash s → b ≡ damages x.ended → damaged hash s ≡ b
   unfolding damaged
   pass-says x b e f = rw (← e) (sym f)
 
 -- a refusal of the reading
-abbrev pub refused_with : Refusal → JournalRead
+abbrev pub refused_with : Refusal → ReadAnswer
 refused_with why =
     record { answer = Refused why; nursery = record_of 0 empty; applied = 0; place = 0; ended = Taken }
 

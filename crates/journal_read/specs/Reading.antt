@@ -1,7 +1,8 @@
 -- One record, and a journal's records, read into a nursery that lent tables hold.
 -- Assumes nothing.
-use Rattle.std.specs.Prelude.{ℕ, ◌+◌, List, length}
-use Rattle.base.specs.Answers.{Outcome, refused, taken}
+use Rattle.std.specs.Prelude.{ℕ, ◌+◌, List, length, Result, Ok, Err}
+use Rattle.base.specs.Answers.{Outcome, refused, taken, Answer, Taken, Refused}
+use Rattle.base.specs.declared.Refusal.{Refusal}
 use Rattle.cell_nursery.specs.declared.Nursery.{Nursery}
 use Rattle.cell_nursery.specs.Entries.{State}
 use Rattle.cell_nursery.specs.Delta.{Room, apply_delta}
@@ -13,20 +14,36 @@ use Rattle.journal.specs.Journal as journal
 use Rattle.journal.specs.Journal.{records_from, apply_record, ReadIn, read_out}
 use Rattle.journal_read.specs.declared.Step.{Step}
 
--- what a record did, and the tables after it
+-- what a record did: the nursery after it, and how many bytes it has, 0 where it or its delta is refused
+pub record StepAnswer : Type 0 where
+  pub answer : Answer
+  pub nursery : Nursery
+  pub len : ℕ
+
+-- that, of what a function returns; beside a refusal the nursery is the one that was lent
+abbrev pub as_step : Nursery → Result Step Refusal → StepAnswer
+as_step r (Ok q) = record { answer = Taken; nursery = q.nursery; len = q.len }
+as_step r (Err x) = record { answer = Refused x; nursery = r; len = 0 }
+
+-- that, and the tables after it
 pub record Stepped : Type 0 where
-  pub result : Step
+  pub result : StepAnswer
   pub entries : List ℕ
   pub waiting : List ℕ
   pub cells : List ℕ
 
-abbrev pub stepped : Step → List ℕ → List ℕ → List ℕ → Stepped
+abbrev pub stepped : StepAnswer → List ℕ → List ℕ → List ℕ → Stepped
 stepped q es ws cs = record { result = q; entries = es; waiting = ws; cells = cs }
+
+-- the length of a record, where its delta is taken
+abbrev pub len_beside : Answer → ℕ → ℕ
+len_beside Taken n = n
+len_beside (Refused x) n = 0
 
 -- what a delta did, beside the length of its record
 abbrev pub beside : ℕ → Changed → Stepped
 beside n c =
-    stepped (record { answer = c.result.answer; nursery = c.result.nursery; len = n }) c.entries c.waiting c.cells
+    stepped (record { answer = c.result.answer; nursery = c.result.nursery; len = len_beside c.result.answer n }) c.entries c.waiting c.cells
 
 unfoldable pub record_on : Nursery → List ℕ → List ℕ → List ℕ → Outcome Decoding → Stepped
 record_on r es ws cs (refused x) = beside 0 (laid_out r.delay r es ws cs (refused x))

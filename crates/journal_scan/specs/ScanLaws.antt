@@ -5,12 +5,10 @@ use Rattle.std.proofs.Math.Path.{refl, ap}
 use Rattle.std.proofs.Common.{sym, ◌∙◌, add-one, arith, take_all}
 use Rattle.std.proofs.Math.ListN.{length-drop}
 use Rattle.std.proofs.Math.Seq.{drop-drop, drop-length}
-use Rattle.base.specs.Answers.{Outcome, refused, taken}
+use Rattle.base.specs.Answers.{Outcome, refused, taken, Answer, Taken, Refused}
 use Rattle.base.specs.AnswerLaws.{not-refused}
 use Rattle.base.specs.declared.Refusal.{Refusal}
-use Rattle.base.specs.declared.Answer.{Answer}
-use Rattle.base.specs.declared.Answer.TheVariants.{Taken, Refused}
-use Rattle.format.specs.declared.Decoded.{Decoded}
+use Rattle.format.specs.Returned.{Decoded}
 use Rattle.format.specs.Record.{Decoding, decode}
 use Rattle.format.specs.Calls.{decoded_of, decode_call}
 use Rattle.format.proofs.TakenLaws.{taken-lent}

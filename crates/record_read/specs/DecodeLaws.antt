@@ -1,28 +1,28 @@
 -- What reading a record answers at each of its tests, and a payload's parts by their places in the record.
 -- Assumes nothing.
-use Rattle.std.specs.Prelude.{◌≡◌, Bool, List, ◌++◌, ℕ, ◌+◌, ◌-◌, ◌*◌, ◌^◌, ◌≤◌, ◌<◌, length, take, drop, ltb}
+use Rattle.std.specs.Prelude.{◌≡◌, Bool, List, ◌++◌, ℕ, ◌+◌, ◌-◌, ◌*◌, ◌^◌, ◌≤◌, ◌<◌, length, take, drop, ltb, Ok, Err}
 use Rattle.std.proofs.Math.Path.{refl}
-use Rattle.std.proofs.Common.{sym, ap, ◌∙◌, append-nil, drop-drop, take-take}
+use Rattle.std.proofs.Common.{sym, ap, subst, ◌∙◌, append-nil, drop-drop, take-take}
 use Rattle.std.proofs.Math.Bool.{true, false}
 use native.Mathlib.Omega.{arith}
 use Rattle.std.proofs.Math.Seq.{paste, drop-length}
 use borrow.Author.Tests.{le-ltb, lt-ltb, le-leb, lt-leb}
 use Rattle.base.specs.Logic.{pick, all, eqb_list, overlay}
 use Rattle.base.specs.Bytes.{unle}
-use Rattle.base.specs.Answers.{Outcome, refused, taken, ◌>>=◌, ◌>>◌, refuse_if}
+use Rattle.base.specs.Answers.{Outcome, refused, taken, ◌>>=◌, ◌>>◌, refuse_if, Taken}
+use Rattle.base.specs.declared.Refusal.{Refusal}
 use Rattle.base.specs.declared.Refusal.TheVariants.{ShortRecord, FarLength, Mismatch, Misfit, Leftover}
-use Rattle.base.specs.declared.Answer.TheVariants.{Taken}
 use Rattle.slices.specs.Laws.{part-front, length_part, drop-take, paste-start, eqb_list-refl}
 use Rattle.cell_nursery.specs.Entries.{cell_bytes}
 use Rattle.cell_nursery.specs.Items.{delta_of}
 use Rattle.delta_items.specs.Walk.{inserts_in, inserts_len, items_fit, delta_in}
 use Rattle.delta_items.specs.WalkLaws.{delta-whole, delta-none, fit-inserts, cells_left, length-inserts, length-hashes}
-use Rattle.format.specs.declared.Decoded.{Decoded}
+use Rattle.format.specs.declared.DecodedRecord.{DecodedRecord}
+use Rattle.format.specs.Returned.{Decoded, as_decoded, no_stats}
 use Rattle.format.specs.Record.{Decoding, parse, stats_of, used_bytes, leftover, decode, stated, Whole, Matches}
-use Rattle.format.specs.Calls.{no_stats, decoded_of, parse_call, decode_call}
+use Rattle.format.specs.Calls.{decoded_of, parse_call, decode_call}
 use Rattle.format.proofs.ExactLaws.{parsed}
 use Rattle.format.proofs.RefusalLaws.{payload-short, payload-past, payload-items}
-use Rattle.record_read.specs.declared.Framed.TheVariants.{Len}
 use Rattle.record_read.specs.Judged.{decoding_of, payload_call, exact_call, Framing}
 
 -- ---- the tests before the payload's
@@ -42,7 +42,7 @@ module _ (hash : List ℕ → List ℕ) (bs : List ℕ) where
     parse-cut near h = rw (le-ltb (length bs) 40 whole, lt-leb (2 ^ 64 - 8) (stated bs) near, lt-ltb (length bs) (40 + stated bs) h)
 
   -- a whole record, whose payload has n bytes
-  module _ (n : ℕ) (framed : Framing bs (Len n)) where
+  module _ (n : ℕ) (framed : Framing bs (Ok n)) where
     head : 40 ≤ length bs
     head = omega (arith, framed.1.1)
 
@@ -80,6 +80,14 @@ module _ (hash : List ℕ → List ℕ) (bs : List ℕ) where
       go : (o : Outcome Decoding) → exact_call (decoded_of o) ≡ decoded_of (o >>= (λ d. refuse_if (ltb 0 (leftover d.stats)) Leftover >> taken d))
       go (refused r) = refl
       go (taken d) = last (ltb 0 (leftover d.stats)) d
+
+  -- by what a reading returned: nothing is judged further beside a refusal
+  pub exact-refused : {r : Refusal} → as_decoded (Err r) ≡ parse_call hash bs → as_decoded (Err r) ≡ decode_call hash bs
+  unfolding exact_call no_stats leftover
+  exact-refused e = ap exact_call e ∙ exact-parsed
+
+  pub used-parsed : {d : DecodedRecord} → all (λ b. ltb b 256) bs ≡ true → as_decoded (Ok d) ≡ parse_call hash bs → used_bytes d.stats ≤ d.stats.payload_bytes
+  used-parsed bytes e = let Inside : Decoded → Type 0 = λ x. used_bytes x.stats ≤ x.stats.payload_bytes in subst Inside (sym e) (used-inside bytes)
 
 -- by the figures of what was read
 pub over-refused : (d : Decoded) → used_bytes d.stats < d.stats.payload_bytes → exact_call d ≡ decoded_of (refused Leftover)

@@ -1,20 +1,19 @@
 -- What the tests before the hash say of a record; a record whose length and hash are right, by its payload of n bytes; and decoding by what is read.
 -- Assumes nothing.
-use Rattle.std.specs.Prelude.{ℕ, ◌≡◌, List, take, drop, ltb}
+use Rattle.std.specs.Prelude.{ℕ, ◌≡◌, List, take, drop, ltb, Result, Ok, Err}
 use Rattle.base.specs.Logic.{pick}
 use Rattle.base.specs.Answers.{refused, taken, ◌>>=◌, or_refuse}
+use Rattle.base.specs.declared.Refusal.{Refusal}
 use Rattle.base.specs.declared.Refusal.TheVariants.{Misfit, Leftover}
-use Rattle.format.specs.declared.Decoded.{Decoded}
+use Rattle.format.specs.Returned.{Decoded}
 use Rattle.format.specs.Payload.{Payload, payload_of}
 use Rattle.format.specs.Record.{Decoding, stats_of, leftover, stated, Whole}
 use Rattle.format.specs.Calls.{decoded_of, parse_call}
-use Rattle.record_read.specs.declared.Framed.{Framed}
-use Rattle.record_read.specs.declared.Framed.TheVariants.{Len, Refused}
 
 -- the length that is stated, where the record is whole; else what reading it refuses, by any hash
-abbrev pub Framing : List ℕ → Framed → Type 0
-Framing bs (Len n) = (n ≡ stated bs) × Whole bs
-Framing bs (Refused r) = (hash : List ℕ → List ℕ) → parse_call hash bs ≡ decoded_of (refused r)
+abbrev pub Framing : List ℕ → Result ℕ Refusal → Type 0
+Framing bs (Ok n) = (n ≡ stated bs) × Whole bs
+Framing bs (Err r) = (hash : List ℕ → List ℕ) → parse_call hash bs ≡ decoded_of (refused r)
 
 unfoldable pub decoding_of : ℕ → List ℕ → Payload → Decoding
 decoding_of n bs p = record { id = p.id; hash = take 32 bs; delta = p.delta; stats = stats_of n p.delta }

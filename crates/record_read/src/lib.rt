@@ -4,44 +4,21 @@
 // A record is judged by the hash from a start, which a caller makes once for all its records.
 #![tactic(auto)]
 
-ghost use Rattle.std.specs.Prelude.{◌≡◌, ◌+◌, ◌≤◌, length, take, drop};
+ghost use Rattle.std.specs.Prelude.{◌≡◌, ◌+◌, ◌≤◌, length, take, drop, option_copied};
 ghost use Rattle.base.specs.Logic.{eqb_list};
-ghost use Rattle.base.specs.Answers.{refused};
 ghost use Rattle.blake3.specs.Spec.{hash};
-ghost use Rattle.blake3.specs.Mode.{mode_of, hash_from};
-ghost use Rattle.format.specs.Record.{used_bytes};
-ghost use Rattle.format.specs.Calls.{decoded_of, parse_call, decode_call, decode_under};
-ghost use Rattle.format.specs.Record.{stated_hash};
+ghost use Rattle.blake3.specs.Mode.{mode_in, hash_from};
+ghost use Rattle.format.specs.Returned.{as_decoded};
+ghost use Rattle.format.specs.Record.{used_bytes, stated_hash};
+ghost use Rattle.format.specs.Calls.{parse_call, decode_call, decode_under};
 ghost use Rattle.record_read.specs.Judged.{payload_call, exact_call, Framing};
 
-use base::{Answer, Refusal};
-use blake3::{Start, bad_key, hash_from, start_of, without_key};
+use base::Refusal;
+use blake3::{Start, hash_from, start_of, without_key};
 use byte_numbers::{read_le32, read_le64};
-use byte_slices::{copy_at, equal};
-use delta_items::{End, cell_bytes, removes_at};
-use format::{Decoded, RecordStats, metadata_len, no_stats};
-
-// The length of a whole record's payload, or the refusal by the tests before the hash.
-#[derive(Clone, Copy)]
-enum Framed {
-    Len(usize),
-    Refused(Refusal),
-}
-
-// What stands beside a refusal.
-fn refusal(r: Refusal) -> Decoded
-    ensures { result ≡ decoded_of (refused r) }
-{
-    let stats = no_stats();
-    Decoded {
-        answer: Answer::Refused(r),
-        id: 0,
-        hash: [0; 32],
-        items_at: 0,
-        items_len: 0,
-        stats,
-    }
-}
+use delta_items::{cell_bytes, removes_at};
+use format::{DecodedRecord, RecordStats, metadata_len};
+use slices::equal;
 
 // The hash that a record states.
 fn stated_hash(s: &[u8]) -> [u8; 32]
@@ -49,7 +26,7 @@ fn stated_hash(s: &[u8]) -> [u8; 32]
     ensures { result ≡ take 32 s.now }
 {
     let mut h = [0u8; 32];
-    copy_at(&mut h, 0, &s[0..32]);
+    h.copy_from_slice(&s[..32]);
     h
 }
 
@@ -64,18 +41,18 @@ fn hash_matches(start: Start, s: &[u8], n: usize) -> bool
 }
 
 // A record whose length and hash are right, by the n bytes of its payload.
-fn decode_payload(s: &[u8], n: usize) -> Decoded
+fn decode_payload(s: &[u8], n: usize) -> Result<DecodedRecord, Refusal>
     requires { 40 + n ≤ length s.now }
-    ensures { result ≡ payload_call n s.now }
+    ensures { as_decoded result ≡ payload_call n s.now }
 {
     if n < 16 {
-        return refusal(Refusal::Misfit);
+        return Err(Refusal::Misfit);
     }
     let inserts = read_le32(s, 48) as u64;
     let removes = read_le32(s, 52) as u64;
     let past = 40 + n;
-    let End::At(at) = removes_at(&s[56..past], false, inserts, removes) else {
-        return refusal(Refusal::Misfit);
+    let Some(at) = removes_at(&s[56..past], false, inserts, removes) else {
+        return Err(Refusal::Misfit);
     };
     let hash = stated_hash(s);
     let stats = RecordStats {
@@ -85,103 +62,89 @@ fn decode_payload(s: &[u8], n: usize) -> Decoded
         insert_ops: inserts,
         remove_ops: removes,
     };
-    Decoded {
-        answer: Answer::Taken,
+    Ok(DecodedRecord {
         id: read_le64(s, 40),
         hash,
         items_at: 56,
         items_len: n - 16,
         stats,
-    }
+    })
 }
 
-// The tests before the hash.
-fn frame(s: &[u8]) -> Framed
+// The length of a whole record's payload, or the refusal by the tests before the hash.
+fn frame(s: &[u8]) -> Result<usize, Refusal>
     ensures { Framing s.now result }
 {
     if s.len() < 40 {
-        return Framed::Refused(Refusal::ShortRecord);
+        return Err(Refusal::ShortRecord);
     }
     let n = read_le64(s, 32);
     if 18446744073709551608 <= n {
-        return Framed::Refused(Refusal::FarLength);
+        return Err(Refusal::FarLength);
     }
     let n = n as usize;
     if s.len() - 40 < n {
-        return Framed::Refused(Refusal::ShortRecord);
+        return Err(Refusal::ShortRecord);
     }
-    Framed::Len(n)
+    Ok(n)
 }
 
 // Parses the record that s starts with, whatever its payload has after the last item; what follows it is ignored.
-fn parse_from(start: Start, s: &[u8]) -> Decoded
-    ensures { result ≡ parse_call (hash_from start) s.now }
+fn parse_from(start: Start, s: &[u8]) -> Result<DecodedRecord, Refusal>
+    ensures { as_decoded result ≡ parse_call (hash_from start) s.now }
 {
-    let f = frame(s);
-    match f {
-        Framed::Refused(r) => refusal(r),
-        Framed::Len(n) => {
-            if !hash_matches(start, s, n) {
-                return refusal(Refusal::Mismatch);
-            }
-            decode_payload(s, n)
-        }
+    let n = frame(s)?;
+    if !hash_matches(start, s, n) {
+        return Err(Refusal::Mismatch);
     }
+    decode_payload(s, n)
 }
 
 // Parses a record that was written without a key.
-pub fn parse_record(s: &[u8]) -> Decoded
-    ensures { result ≡ parse_call hash s.now }
+pub fn parse_record(s: &[u8]) -> Result<DecodedRecord, Refusal>
+    ensures { as_decoded result ≡ parse_call hash s.now }
 {
-    let start = without_key();
-    parse_from(start, s)
+    parse_from(without_key(), s)
 }
 
 // Parses a record whose hash is taken on trust: it isn't worked out, so that no start is needed.
-pub fn parse_record_held(s: &[u8]) -> Decoded
-    ensures { result ≡ parse_call (stated_hash s.now) s.now }
+pub fn parse_record_held(s: &[u8]) -> Result<DecodedRecord, Refusal>
+    ensures { as_decoded result ≡ parse_call (stated_hash s.now) s.now }
 {
-    let f = frame(s);
-    match f {
-        Framed::Refused(r) => refusal(r),
-        Framed::Len(n) => decode_payload(s, n),
-    }
+    decode_payload(s, frame(s)?)
 }
 
 // A record that was parsed, refused where bytes are left over.
-fn exact(d: Decoded) -> Decoded
+fn exact(d: DecodedRecord) -> Result<DecodedRecord, Refusal>
     requires { used_bytes d.stats ≤ d.stats.payload_bytes }
-    ensures { result ≡ exact_call d }
+    ensures { as_decoded result ≡ exact_call (as_decoded (Ok d)) }
 {
     if d.stats.metadata_bytes + d.stats.cell_bytes < d.stats.payload_bytes {
-        return refusal(Refusal::Leftover);
+        return Err(Refusal::Leftover);
     }
-    d
+    Ok(d)
 }
 
 // Decodes the record that s starts with, whose payload ends with its last item; what follows it is ignored.
-pub fn decode_from(start: Start, s: &[u8]) -> Decoded
-    ensures { result ≡ decode_call (hash_from start) s.now }
+pub fn decode_from(start: Start, s: &[u8]) -> Result<DecodedRecord, Refusal>
+    ensures { as_decoded result ≡ decode_call (hash_from start) s.now }
 {
-    let d = parse_from(start, s);
+    let d = parse_from(start, s)?;
     exact(d)
 }
 
 // Decodes a record under a key, or without one. The key is judged before the record.
-pub fn decode_record(keyed: bool, key: &[u8], s: &[u8]) -> Decoded
-    ensures { result ≡ decode_under (mode_of keyed key.now) s.now }
+pub fn decode_record(key: Option<&[u8]>, s: &[u8]) -> Result<DecodedRecord, Refusal>
+    ensures { as_decoded result ≡ decode_under (mode_in (option_copied key.entry)) s.now }
 {
-    if bad_key(keyed, key) {
-        return refusal(Refusal::BadSetting);
-    }
-    let start = start_of(keyed, key);
+    let start = start_of(key)?;
     decode_from(start, s)
 }
 
 // Decodes a record whose hash is taken on trust.
-pub fn decode_record_held(s: &[u8]) -> Decoded
-    ensures { result ≡ decode_call (stated_hash s.now) s.now }
+pub fn decode_record_held(s: &[u8]) -> Result<DecodedRecord, Refusal>
+    ensures { as_decoded result ≡ decode_call (stated_hash s.now) s.now }
 {
-    let d = parse_record_held(s);
+    let d = parse_record_held(s)?;
     exact(d)
 }

@@ -8,7 +8,7 @@ use borrow.Author.Tests.{lt-ltb, le-ltb, ltb-false}
 use Rattle.base.specs.Logic.{flat, max32, overlay}
 use Rattle.base.specs.Laws.{length_digits}
 use Rattle.base.specs.ListLaws.{or-false}
-use Rattle.base.specs.declared.Answer.TheVariants.{Taken}
+use Rattle.base.specs.Answers.{Taken}
 use Rattle.base.specs.declared.Refusal.TheVariants.{TooLong, OutputFull, Broken}
 use Rattle.cell_nursery.specs.Entries.{cell_bytes, hash_bytes, insert_bytes}
 use Rattle.cell_nursery.specs.Items.{Delta, item_bytes}

@@ -3,10 +3,9 @@
 use Rattle.std.specs.Prelude.{ℕ, List, ◌++◌, length}
 use Rattle.std.proofs.Math.Seq.{paste}
 use Rattle.base.specs.Bytes.{le32, le64}
-use Rattle.base.specs.declared.Answer.TheVariants.{Refused}
+use Rattle.base.specs.Answers.{Refused}
 use Rattle.base.specs.declared.Refusal.{Refusal}
-use Rattle.format.specs.declared.Encoded.{Encoded}
-use Rattle.format.specs.Calls.{no_stats}
+use Rattle.format.specs.Returned.{Encoded, no_stats}
 
 -- the output with bytes from a place on
 abbrev pub laid_at : List ℕ → ℕ → List ℕ → List ℕ

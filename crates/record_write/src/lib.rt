@@ -2,36 +2,25 @@
 // written goes in front.
 #![tactic(auto)]
 
-ghost use Rattle.std.specs.Prelude.{◌≡◌, true, false, ◌+◌, ◌-◌, ◌≤◌, length, take, drop};
+ghost use Rattle.std.specs.Prelude.{◌≡◌, true, false, ◌+◌, ◌-◌, ◌≤◌, length, take, drop, option_copied};
 ghost use Rattle.base.specs.Logic.{flat, max32};
-ghost use Rattle.blake3.specs.Mode.{mode_of, hash_from};
+ghost use Rattle.blake3.specs.Mode.{mode_in, hash_from};
 ghost use Rattle.cell_nursery.specs.Entries.{insert_bytes};
 ghost use Rattle.cell_nursery.specs.Calls.{length_width};
 ghost use Rattle.delta_items.specs.Walk.{cell_len, insert_len, insert_in, inserts_in, inserts_fit, long_cell, delta_in};
 ghost use Rattle.format.specs.Payload.{payload_bytes};
 ghost use Rattle.format.specs.Record.{hashed};
+ghost use Rattle.format.specs.Returned.{as_encoded};
 ghost use Rattle.format.specs.Calls.{effect, encode_call, encode_under};
 ghost use Rattle.record_write.specs.EncodeLaws.{Body};
-ghost use Rattle.record_write.specs.Laid.{laid_at, head_bytes, refused_with};
+ghost use Rattle.record_write.specs.Laid.{laid_at, head_bytes};
 
-use base::{Answer, Refusal};
-use blake3::{Start, bad_key, hash_from, start_of};
+use base::Refusal;
+use blake3::{Start, hash_from, start_of};
 use byte_numbers::{write_le16, write_le32, write_le64};
-use byte_slices::copy_at;
-use delta_items::{End, any_too_long, cell_bytes, cell_len, head_len, insert_end, removes_at};
-use format::{Encoded, RecordStats, metadata_len, no_stats};
-
-// What stands beside a refusal.
-fn refusal(r: Refusal) -> Encoded
-    ensures { result ≡ refused_with r }
-{
-    let stats = no_stats();
-    Encoded {
-        answer: Answer::Refused(r),
-        len: 0,
-        stats,
-    }
-}
+use delta_items::{any_too_long, cell_bytes, cell_len, head_len, insert_end, removes_at};
+use format::{EncodedRecord, RecordStats, metadata_len};
+use slices::copy_at;
 
 // The insert at `at` goes into the output from index `to` on, with its cell's length in 2 bytes.
 fn write_insert(out: &mut [u8], to: usize, items: &[u8], at: usize, wide: bool)
@@ -56,12 +45,10 @@ fn write_inserts(out: &mut [u8], items: &[u8], wide: bool, inserts: u64)
 {
     let mut to = 56;
     let mut at = 0;
-    let mut i: u64 = 0;
-    while i < inserts {
+    for _ in 0..inserts {
         write_insert(out, to, items, at, wide);
         to += 46 + cell_len(items, at, wide);
         at = insert_end(items, at, wide);
-        i += 1;
     }
 }
 
@@ -115,26 +102,25 @@ fn encode_from(
     removes: u64,
     items: &[u8],
     out: &mut [u8],
-) -> Encoded
-    ensures { effect result out.new ≡ encode_call (hash_from start) id wide inserts removes items.now out.old }
+) -> Result<EncodedRecord, Refusal>
+    ensures { effect (as_encoded result) out.new ≡ encode_call (hash_from start) id wide inserts removes items.now out.old }
 {
-    let End::At(end) = removes_at(items, wide, inserts, removes) else {
-        return refusal(Refusal::Broken);
+    let Some(end) = removes_at(items, wide, inserts, removes) else {
+        return Err(Refusal::Broken);
     };
     if any_too_long(items, wide, inserts, removes) {
-        return refusal(Refusal::TooLong);
+        return Err(Refusal::TooLong);
     }
     let cells = cell_bytes(end, wide, inserts) as u64;
     let metadata = metadata_len(inserts, removes);
     let payload = metadata + cells;
     let len = 40 + payload as usize;
     if out.len() < len {
-        return refusal(Refusal::OutputFull);
+        return Err(Refusal::OutputFull);
     }
     write_body(out, id, wide, inserts, removes, items, end, payload);
     write_hash(start, out, len);
-    Encoded {
-        answer: Answer::Taken,
+    Ok(EncodedRecord {
         len,
         stats: RecordStats {
             payload_bytes: payload,
@@ -143,25 +129,22 @@ fn encode_from(
             insert_ops: inserts,
             remove_ops: removes,
         },
-    }
+    })
 }
 
 // The record of a delta under a key, or without one. The key is judged before what is lent.
 pub fn encode_record(
-    keyed: bool,
-    key: &[u8],
+    key: Option<&[u8]>,
     id: u64,
     wide: bool,
     inserts: u64,
     removes: u64,
     items: &[u8],
     out: &mut [u8],
-) -> Encoded
-    ensures { effect result out.new ≡ encode_under (mode_of keyed key.now) id wide inserts removes items.now out.old }
+) -> Result<EncodedRecord, Refusal>
+    ensures { effect (as_encoded result) out.new
+        ≡ encode_under (mode_in (option_copied key.entry)) id wide inserts removes items.now out.old }
 {
-    if bad_key(keyed, key) {
-        return refusal(Refusal::BadSetting);
-    }
-    let start = start_of(keyed, key);
+    let start = start_of(key)?;
     encode_from(start, id, wide, inserts, removes, items, out)
 }

@@ -6,10 +6,10 @@ use Rattle.blake3.proofs.bytes.Goals as goal
 
 pub loop-i-init : goal.loop-i-init
 unfolding spelled
-loop-i-init c = (omega arith, refl)
+loop-i-init c = refl
 
 pub loop-i-preserved : goal.loop-i-preserved
-loop-i-preserved c = (omega arith, spelled-more _ _ c.loop-i.invariant.1)
+loop-i-preserved c = spelled-more _ _ c.loop-i.invariant c.write_le32.ensures
 
 pub returns : goal.returns
-returns c = spelled-all _ c.loop-i.i (omega arith) (omega arith) c.loop-i.invariant.1
+returns c = spelled-all _ c.loop-i.i (omega arith) (omega arith) c.loop-i.invariant

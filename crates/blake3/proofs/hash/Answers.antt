@@ -1,10 +1,12 @@
--- `blake3::hash` meets its contract. Hash mode starts from the constant words, with no flag.
+-- `blake3::hash` meets its contract. A start without a key is that of hash mode.
 -- Assumes nothing.
-use Rattle.blake3_compress.specs.Spec.{iv}
-use Rattle.blake3.specs.Spec.{hash}
-use Rattle.blake3.proofs.Laws.{hashed}
+use mathlib.Core.Path.{ap, ◌∙◌}
+use mathlib.Core.List.{List}
+use Prim.Native.Nat.{ℕ}
+use Rattle.blake3.specs.Mode.{unkeyed, hash_by}
+use Rattle.blake3.specs.ModeLaws.{started}
 use Rattle.blake3.proofs.hash.Goals as goal
 
 pub returns : goal.returns
-unfolding iv hash
-returns c = hashed iv 0 c.args.s.now c.tree.ensures c.bytes.ensures
+unfolding hash_by
+returns c = c.hash_from.ensures ∙ ap (λ (h : List ℕ → List ℕ). h c.args.s.now) (started unkeyed c.without_key.ensures)

@@ -1,15 +1,15 @@
--- `blake3::keyed_hash` meets its contract. Keyed mode starts from the words of the key, with its flag.
+-- `blake3::keyed_hash` meets its contract. A start under a key is that of keyed mode.
 -- Assumes nothing.
 use mathlib.Core.Path.{ap, ◌∙◌}
 use mathlib.Core.List.{List}
+use mathlib.Core.Bool.{true}
 use Prim.Native.Nat.{ℕ}
-use Rattle.blake3.specs.Spec.{hash_with, keyed}
-use Rattle.blake3.proofs.Laws.{hashed}
+use Rattle.blake3.specs.Mode.{mode_of, hash_by}
+use Rattle.blake3.specs.ModeLaws.{started}
 use Rattle.blake3.proofs.keyed_hash.Goals as goal
 
 pub returns : goal.returns
-unfolding keyed
+unfolding hash_by
 returns c =
-    let s : List ℕ = c.args.s.now in
-    let w = c.key_words-words in
-    hashed w.result 16 s c.tree.ensures c.bytes.ensures ∙ ap (λ (ws : List ℕ). hash_with ws 16 s) w.ensures
+    let a = c.args in
+    c.hash_from.ensures ∙ ap (λ (h : List ℕ → List ℕ). h a.s.now) (started (mode_of true a.key.now) c.under_key.ensures)

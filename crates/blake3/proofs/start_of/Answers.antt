@@ -1,19 +1,17 @@
--- `blake3::start_of` meets its contract. By whether there is a key, which then has 32 bytes.
+-- `blake3::start_of` meets its contract. By whether there is a key, and by its length.
 -- Assumes nothing.
-use mathlib.Core.Path.{◌∙◌}
-use Rattle.blake3.specs.Mode.{start_of}
-use Rattle.blake3.specs.ModeLaws.{key-length}
+use Rattle.std.proofs.Common.{eq-eqb, ne_eqb}
+use Rattle.blake3.specs.Mode.{bad_key, start_call}
 use Rattle.blake3.proofs.start_of.Goals as goal
 
-pub returns-then-not-keyed : goal.returns-then-not-keyed
-unfolding start_of
-returns-then-not-keyed c = c.without_key.ensures ∙ rw (c.if-not-keyed.true)
+pub returns-in_default : goal.returns-in_default
+unfolding bad_key start_call
+returns-in_default c = rw (c.in_default.is, c.without_key.ensures)
 
-pub key_words-words-requires : goal.key_words-words-requires
-key_words-words-requires c =
-    let a = c.args in
-    key-length a.key.now (rw (c.if-not-keyed.false) at c.requires)
+pub returns-then-key-ne32 : goal.returns-then-key-ne32
+unfolding bad_key start_call
+returns-then-key-ne32 c = rw (c.in-Some.is, ne_eqb _ 32 c.if-key-ne32.true)
 
 pub returns : goal.returns
-unfolding start_of
-returns c = rw (c.if-not-keyed.false, c.key_words-words.ensures)
+unfolding bad_key start_call
+returns c = rw (c.in-Some.is, eq-eqb _ 32 c.if-key-ne32.false, c.under_key.ensures)

@@ -1,14 +1,13 @@
--- `blake3_compress::joined` meets its contract. The loop's invariant: the first i words of each part stand.
-use Rattle.std.proofs.Common.{refl, arith}
-use Rattle.blake3_compress.proofs.Laws.{beside, beside-more, beside-all}
+-- `blake3_compress::joined` meets its contract. The second copy goes behind the first, and leaves nothing of the zeros.
+-- Assumes nothing.
+use Rattle.std.proofs.Common.{◌≡◌, length, arith, append-nil}
+use Rattle.std.proofs.lemmas.List.{take_at, drop_at}
+use Rattle.base.specs.Logic.{zeros}
 use Rattle.blake3_compress.proofs.joined.Goals as goal
 
-pub loop-i-init : goal.loop-i-init
-unfolding beside
-loop-i-init c = (omega arith, refl)
-
-pub loop-i-preserved : goal.loop-i-preserved
-loop-i-preserved c = (omega arith, beside-more _ _ _ c.loop-i.invariant.1)
-
 pub returns : goal.returns
-returns c = beside-all _ _ c.loop-i.i (omega arith) (omega arith) (omega arith) c.loop-i.invariant.1
+returns c =
+    let a = c.args in
+    let n : length a.l ≡ 8 = omega arith in
+    let f = c.copy_from_slice.ensures.after in
+    rw (f, c.copy_from_slice-2.ensures.after, take_at a.l (zeros 8) 8 n, drop_at a.l (zeros 8) 8 n, append-nil)

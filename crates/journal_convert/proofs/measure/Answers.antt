@@ -1,112 +1,83 @@
 -- `journal_convert::measure`. The loop's invariant: what is measured and what is ahead make the sizes that are wanted.
 -- The measure is what is left of the journal's bytes. Assumes nothing.
-use mathlib.Core.Path.{◌≡◌, ap}
-use Prim.Native.Nat.{◌+◌, ◌-◌}
+use mathlib.Core.Path.{◌≡◌, refl, ap}
+use mathlib.Core.List.{List}
+use Prim.Native.Nat.{ℕ, ◌+◌, ◌-◌}
 use native.Mathlib.Omega.{arith}
-use lib.ListN.{length}
+use lib.ListN.{length, take, drop}
+use Rattle.std.specs.Prelude.{Ok, Err}
+use Rattle.base.specs.SpellLaws.{Bytes}
 use Rattle.slices.specs.ByteLaws.{u8-bytes}
 use Rattle.blake3.specs.Spec.{hash}
 use Rattle.blake3.specs.Equations.{length-hash}
+use Rattle.format.specs.declared.DecodedRecord.{DecodedRecord}
+use Rattle.format.specs.Returned.{as_decoded}
 use Rattle.format.specs.Record.{used_bytes}
+use Rattle.format.specs.Calls.{parse_call}
 use Rattle.journal_convert.specs.Rewriting.{listed}
 use Rattle.journal_convert.specs.PutLaws.{listed-none, length-listed}
 use Rattle.journal_convert.specs.RecordLaws.{Turn}
-use Rattle.journal_convert.specs.PassLaws.{measuring-start, measuring-next, measured, taken-turn, refused-there}
+use Rattle.journal_convert.specs.PassLaws.{Measuring, measuring-start, measuring-next, measured, taken-turn, refused-there}
 use Rattle.journal_convert.proofs.measure.Goals as goal
 use Rattle.journal_convert.proofs.measure.Goals.{else-used-n, then-used-n}
 
 -- the record at hand was taken
+turn : {s : List ℕ} {place len dropped_len : ℕ} {d : DecodedRecord} → Measuring hash s place len dropped_len → Bytes s
+    → as_decoded (Ok d) ≡ parse_call hash (take (length s - place) (drop place s)) → Turn hash s place d.stats.payload_bytes (used_bytes d.stats)
+turn {s} {place} {d = d} x b read = taken-turn hash s place x.inside (as_decoded (Ok d)) read b refl
 
-turn : (c : goal.After-struct_known-1) → let q = c.parse_record-d.result in
-    Turn hash c.args.s.now c.loop-n.place q.stats.payload_bytes (used_bytes q.stats)
-turn c =
-    let l = c.loop-n in
-    let s = c.args.s.now in
-    taken-turn hash s l.place l.invariant.inside c.parse_record-d.result c.parse_record-d.ensures (u8-bytes s (λ i. (c.type_inv.s i).fits)) c.in_default.is
-
--- the record at hand was taken
-turn-at-Then-used-n : (c : goal.Then-used-n) → let q = c.parse_record-d.result in
-    Turn hash c.args.s.now c.loop-n.place q.stats.payload_bytes (used_bytes q.stats)
-turn-at-Then-used-n c =
-    let l = c.loop-n in
-    let s = c.args.s.now in
-    taken-turn hash s l.place l.invariant.inside c.parse_record-d.result c.parse_record-d.ensures (u8-bytes s (λ i. (c.type_inv.s i).fits)) c.in_default.is
-
--- the record at hand was taken
-turn-at-Joined-used-n : (c : goal.Joined-used-n) → let q = c.parse_record-d.result in
-    Turn hash c.args.s.now c.loop-n.place q.stats.payload_bytes (used_bytes q.stats)
-turn-at-Joined-used-n c =
-    let l = c.loop-n in
-    let s = c.args.s.now in
-    taken-turn hash s l.place l.invariant.inside c.parse_record-d.result c.parse_record-d.ensures (u8-bytes s (λ i. (c.type_inv.s i).fits)) c.in_default.is
-
-pub loop-n-init : goal.loop-n-init
-loop-n-init c = measuring-start hash c.args.s.now
-
-pub slice_bounds-parse_record-count : goal.slice_bounds-parse_record-count
-slice_bounds-parse_record-count c = omega (arith, c.loop-n.invariant.inside)
-
-pub slice_bounds-parse_record-start : goal.slice_bounds-parse_record-start
-slice_bounds-parse_record-start c = omega (arith, c.loop-n.invariant.inside)
-
-pub slice_bounds-parse_record-end : goal.slice_bounds-parse_record-end
-slice_bounds-parse_record-end c = omega arith
-
-pub overflow_sub-result : goal.overflow_sub-result
-overflow_sub-result c = omega (arith, c.loop-n.invariant.inside)
-
-pub overflow_add-result : goal.overflow_add-result
-overflow_add-result c =
-    let size = c.well_formed in
-    omega (arith, c.loop-n.invariant.inside, c.loop-n.invariant.short)
+pub loop-d-init : goal.loop-d-init
+loop-d-init c = measuring-start hash c.args.s.now
 
 pub overflow_add-used : goal.overflow_add-used
 overflow_add-used c =
     let size = c.well_formed in
-    omega (arith, (turn c).most, (turn c).inside)
+    let t = turn c.loop-d.invariant (u8-bytes _ (λ i. (c.type_inv.s i).fits)) c.in-Ok.ensures in
+    omega (arith, t.most, t.inside)
 
 pub overflow_add-len : goal.overflow_add-len
 overflow_add-len c =
     let size = c.well_formed in
-    omega (arith, (turn c).most, (turn c).inside)
+    let t = turn c.loop-d.invariant (u8-bytes _ (λ i. (c.type_inv.s i).fits)) c.in-Ok.ensures in
+    omega (arith, t.most, t.inside)
 
-pub overflow_add-len-in-loop-n : goal.overflow_add-len-in-loop-n
-overflow_add-len-in-loop-n c =
+pub overflow_add-len-in-Ok : goal.overflow_add-len-in-Ok
+overflow_add-len-in-Ok c =
     let size = c.well_formed in
-    omega (arith, c.loop-n.invariant.short, (turn c).most, (turn c).inside)
-
-pub overflow_add-dropped_len : goal.overflow_add-dropped_len
-overflow_add-dropped_len c =
-    let size = c.well_formed in
-    omega (arith, c.loop-n.invariant.few, (turn-at-Then-used-n c).inside)
+    let t = turn c.loop-d.invariant (u8-bytes _ (λ i. (c.type_inv.s i).fits)) c.in-Ok.ensures in
+    omega (arith, c.loop-d.invariant.short, t.most, t.inside)
 
 pub overflow_add-place : goal.overflow_add-place
 overflow_add-place c =
     let size = c.well_formed in
-    omega (arith, (turn-at-Joined-used-n c).inside)
+    let t = turn c.loop-d.invariant (u8-bytes _ (λ i. (c.type_inv.s i).fits)) c.in-Ok.ensures in
+    omega (arith, t.inside)
 
-pub overflow_add-place-in-loop-n : goal.overflow_add-place-in-loop-n
-overflow_add-place-in-loop-n c =
+pub overflow_add-place-in-Ok : goal.overflow_add-place-in-Ok
+overflow_add-place-in-Ok c =
     let size = c.well_formed in
-    omega (arith, (turn-at-Joined-used-n c).inside)
+    let t = turn c.loop-d.invariant (u8-bytes _ (λ i. (c.type_inv.s i).fits)) c.in-Ok.ensures in
+    omega (arith, t.inside)
 
-pub loop-n-smaller : goal.loop-n-smaller
-loop-n-smaller c = omega (arith, (turn-at-Joined-used-n c).inside)
+pub loop-d-smaller : goal.loop-d-smaller
+loop-d-smaller c =
+    let t = turn c.loop-d.invariant (u8-bytes _ (λ i. (c.type_inv.s i).fits)) c.in-Ok.ensures in
+    omega (arith, t.inside)
 
-pub loop-n-preserved : goal.loop-n-preserved
-loop-n-preserved c =
-    let q = c.parse_record-d.result in
-    let l = c.loop-n in
-    let at = l.place + (40 + used_bytes q.stats) in
-    let left = q.stats.payload_bytes - used_bytes q.stats in
+pub loop-d-preserved : goal.loop-d-preserved
+loop-d-preserved c =
+    let d = c.in-Ok.d in
+    let l = c.loop-d in
+    let t = turn l.invariant (u8-bytes _ (λ i. (c.type_inv.s i).fits)) c.in-Ok.ensures in
+    let at = l.place + (40 + used_bytes d.stats) in
+    let left = d.stats.payload_bytes - used_bytes d.stats in
     let counted : c.if-used-n.dropped_len ≡ l.dropped_len + length (listed at left) =
     elim c.if-used-n.branch [ then-used-n w ↦ omega (arith, w.dropped_len-is, length-listed at left (omega (arith, w.if-used-n.true))) | else-used-n w ↦ omega (arith, w.dropped_len-is, ap length (listed-none at left (omega (arith, w.if-used-n.false)))) ] in
-    measuring-next hash c.args.s.now length-hash l.place q.stats.payload_bytes (used_bytes q.stats) (turn-at-Joined-used-n c) l.len l.dropped_len c.if-used-n.dropped_len counted l.invariant
+    measuring-next hash c.args.s.now length-hash l.place d.stats.payload_bytes (used_bytes d.stats) t l.len l.dropped_len c.if-used-n.dropped_len counted l.invariant
 
 pub returns : goal.returns
 returns c =
-    let l = c.loop-n in
+    let l = c.loop-d in
     let s = c.args.s.now in
-    let q = c.parse_record-d in
-    let (r, e) = refused-there hash s l.place l.invariant.inside q.result q.ensures c.in-Refused.field-0 c.in-Refused.is in
+    let (r, e) = refused-there hash s l.place l.invariant.inside (as_decoded (Err c.in_default.field-0)) c.in_default.ensures c.in_default.field-0 refl in
     measured hash s l.place l.len l.dropped_len r l.invariant e

@@ -6,8 +6,8 @@ use Rattle.blake3.specs.Spec.{hash}
 use Rattle.journal_convert.specs.PassLaws.{Measuring}
 use Rattle.journal_convert.proofs.measure.Given as goal
 
-abbrev pub invariant-loop-n : goal.invariant-loop-n
-invariant-loop-n l = Measuring hash l.s l.place l.len l.dropped_len
+abbrev pub invariant-loop-d : goal.invariant-loop-d
+invariant-loop-d l = Measuring hash l.s l.place l.len l.dropped_len
 
-abbrev pub decreases-loop-n : goal.decreases-loop-n
-decreases-loop-n l = length l.s - l.place
+abbrev pub decreases-loop-d : goal.decreases-loop-d
+decreases-loop-d l = length l.s - l.place

@@ -3,28 +3,28 @@
 use mathlib.Core.Path.{sym, ap, ◌∙◌}
 use mathlib.Core.List.{List}
 use Prim.Native.Nat.{ℕ}
-use Rattle.blake3.specs.Mode.{mode_of}
-use Rattle.blake3.specs.ModeLaws.{started}
-use Rattle.journal.specs.declared.JournalRead.{JournalRead}
-use Rattle.journal.specs.Journal.{effect, not_read, read_call}
+use Rattle.std.specs.Prelude.{option_copied}
+use Rattle.std.proofs.lemmas.Result.{err_from_is_err_and}
+use Rattle.blake3.specs.Mode.{mode_in}
+use Rattle.blake3.specs.ModeLaws.{started, start-refused, start-taken}
+use Rattle.journal.specs.Journal.{not_read, read_call}
 use Rattle.journal.proofs.ModeLaws.{read-bad-key, read-good}
 use Rattle.journal_read.proofs.read_journal.Goals as goal
 
-pub returns-then-bad_key : goal.returns-then-bad_key
+pub returns-in_err-start : goal.returns-in_err-start
 unfolding not_read
-returns-then-bad_key c =
+returns-in_err-start c =
     let a = c.args in
-    ap (λ (j : JournalRead). effect j a.es.now a.ws.now a.cs.now) c.refused.ensures
-    ∙ sym (read-bad-key (mode_of a.keyed a.key.now) a.delay a.s.now a.es.now a.ws.now a.cs.now (sym c.bad_key.ensures ∙ c.if-bad_key.true))
-
-pub start_of-start-requires : goal.start_of-start-requires
-start_of-start-requires c = sym c.bad_key.ensures ∙ c.if-bad_key.false
+    let m = mode_in (option_copied a.key) in
+    let p = err_from_is_err_and c.from_residual.result c.from_residual.ensures.1 in
+    let q = start-refused m (sym c.in_err-start.was ∙ c.start_of.ensures) in
+    rw (p.1, p.2, q.1) (sym (read-bad-key m a.delay a.s.now a.es.now a.ws.now a.cs.now q.0))
 
 pub returns : goal.returns
 returns c =
     let a = c.args in
-    let m = mode_of a.keyed a.key.now in
-    let good = sym c.bad_key.ensures ∙ c.if-bad_key.false in
+    let m = mode_in (option_copied a.key) in
+    let q = start-taken m (sym c.in_ok-start.was ∙ c.start_of.ensures) in
     c.read_from.ensures
-    ∙ ap (λ (h : List ℕ → List ℕ). read_call h a.delay a.s.now a.es.now a.ws.now a.cs.now) (started m c.start_of-start.ensures)
-    ∙ sym (read-good m a.delay a.s.now a.es.now a.ws.now a.cs.now good)
+    ∙ ap (λ (h : List ℕ → List ℕ). read_call h a.delay a.s.now a.es.now a.ws.now a.cs.now) (started m q.1)
+    ∙ sym (read-good m a.delay a.s.now a.es.now a.ws.now a.cs.now q.0)

@@ -1,23 +1,25 @@
 -- `journal_read::read_records`. The loop's invariant: the tables hold a state from which the rest of the journal leads to the end that is wanted.
 -- The measure is what is left of the journal's bytes. Assumes nothing.
-use mathlib.Core.Path.{refl}
+use mathlib.Core.Path.{◌≡◌, refl}
+use mathlib.Core.List.{List}
+use Prim.Native.Nat.{ℕ, ◌-◌, ◌<◌}
 use native.Mathlib.Omega.{arith}
-use Rattle.journal_read.specs.ReadLaws.{Applied, reach, advanced, stopped, finished}
+use lib.ListN.{length, take, drop}
+use Rattle.std.specs.Prelude.{Ok, Err}
+use Rattle.slices.specs.ByteLaws.{U8}
+use Rattle.cell_nursery.specs.declared.Nursery.{Nursery}
+use Rattle.cell_nursery.specs.Held.{U64}
+use Rattle.journal_read.specs.declared.Step.{Step}
+use Rattle.journal_read.specs.Reading.{as_step, stepped, record_call}
+use Rattle.journal_read.specs.ReadLaws.{Reading, Applied, advanced, stopped, finished}
 use Rattle.journal_read.proofs.read_records.Goals as goal
 
 -- the record at hand was applied
-
-turn : (c : goal.In_default) → let a = c.args in
-    let l = c.loop-place in
-    let q = c.apply_record-step in
-    Applied a.s.now a.r a.es.now a.ws.now a.cs.now q.result.nursery q.result.len q.new.es q.new.ws q.new.cs l.applied l.place
-turn c =
-    let a = c.args in
-    let l = c.loop-place in
-    let q = c.apply_record-step in
-    advanced a.s.now a.r a.es.now a.ws.now a.cs.now l.q l.es l.ws l.cs l.applied l.place l.invariant
-    (omega (arith, l.invariant.inside, c.if-place-end)) (λ i. (c.type_inv.s i).fits) q.result q.new.es q.new.ws q.new.cs q.ensures
-    (λ i. (c.type_inv.es i).fits) (λ i. (c.type_inv.ws i).fits) c.in_default.is
+turn : {s es₀ ws₀ cs₀ es ws cs es' ws' cs' : List ℕ} {r₀ r : Nursery} {applied place : ℕ} {q : Step} → Reading s r₀ es₀ ws₀ cs₀ r es ws cs applied place
+    → place < length s → U8 s → stepped (as_step r (Ok q)) es' ws' cs' ≡ record_call r es ws cs (take (length s - place) (drop place s)) → U64 es' → U64 ws'
+    → Applied s r₀ es₀ ws₀ cs₀ q.nursery q.len es' ws' cs' applied place
+turn {s} {es₀} {ws₀} {cs₀} {es} {ws} {cs} {es'} {ws'} {cs'} {r₀} {r} {applied} {place} {q} x more u e v w =
+    advanced s r₀ es₀ ws₀ cs₀ r es ws cs applied place x more u (as_step r (Ok q)) es' ws' cs' e v w refl
 
 pub loop-place-init : goal.loop-place-init
 loop-place-init c =
@@ -34,60 +36,33 @@ loop-place-init c =
       leads = refl;
     }
 
-pub slice_bounds-apply_record-count : goal.slice_bounds-apply_record-count
-slice_bounds-apply_record-count c = omega (arith, c.loop-place.invariant.inside)
-
-pub slice_bounds-apply_record-start : goal.slice_bounds-apply_record-start
-slice_bounds-apply_record-start c = omega (arith, c.loop-place.invariant.inside)
-
-pub slice_bounds-apply_record-end : goal.slice_bounds-apply_record-end
-slice_bounds-apply_record-end c = omega (arith, c.loop-place.invariant.inside)
-
-pub apply_record-step-requires : goal.apply_record-step-requires
-apply_record-step-requires c = c.loop-place.invariant.holding
-
-pub overflow_add-after : goal.overflow_add-after
-overflow_add-after c =
-    let a = c.args in
-    let l = c.loop-place in
-    let q = c.apply_record-step in
+pub overflow_add-place : goal.overflow_add-place
+overflow_add-place c =
     let size = c.well_formed in
-    let h =
-    reach a.s.now a.r a.es.now a.ws.now a.cs.now l.q l.es l.ws l.cs l.applied l.place l.invariant
-    (omega (arith, l.invariant.inside, c.if-place-end)) (λ i. (c.type_inv.s i).fits) q.result q.new.es q.new.ws q.new.cs q.ensures in
-    omega arith
-
-pub overflow_add-applied : goal.overflow_add-applied
-overflow_add-applied c =
-    let size = c.well_formed in
-    omega (arith, (turn c).next.counted, (turn c).next.inside)
+    let t = turn c.loop-place.invariant (omega (arith, c.loop-place.invariant.inside, c.if-place-s.false)) (λ i. (c.type_inv.s i).fits) c.in-Ok.ensures (λ i. (c.type_inv.es i).fits) (λ i. (c.type_inv.ws i).fits) in
+    omega (arith, t.next.inside)
 
 pub loop-place-smaller : goal.loop-place-smaller
-loop-place-smaller c = omega (arith, (turn c).some, (turn c).next.inside)
+loop-place-smaller c =
+    let t = turn c.loop-place.invariant (omega (arith, c.loop-place.invariant.inside, c.if-place-s.false)) (λ i. (c.type_inv.s i).fits) c.in-Ok.ensures (λ i. (c.type_inv.es i).fits) (λ i. (c.type_inv.ws i).fits) in
+    omega (arith, t.some, t.next.inside)
 
 pub loop-place-preserved : goal.loop-place-preserved
-loop-place-preserved c = (turn c).next
+loop-place-preserved c =
+    let t = turn c.loop-place.invariant (omega (arith, c.loop-place.invariant.inside, c.if-place-s.false)) (λ i. (c.type_inv.s i).fits) c.in-Ok.ensures (λ i. (c.type_inv.es i).fits) (λ i. (c.type_inv.ws i).fits) in
+    t.next
 
-pub shape_of-es-then-place-end : goal.shape_of-es-then-place-end
-shape_of-es-then-place-end c = c.loop-place.invariant.size-es
-
-pub shape_of-ws-then-place-end : goal.shape_of-ws-then-place-end
-shape_of-ws-then-place-end c = c.loop-place.invariant.size-ws
-
-pub shape_of-cs-then-place-end : goal.shape_of-cs-then-place-end
-shape_of-cs-then-place-end c = c.loop-place.invariant.size-cs
-
-pub returns-then-place-end : goal.returns-then-place-end
-returns-then-place-end c =
+pub returns-in-Err : goal.returns-in-Err
+returns-in-Err c =
     let a = c.args in
     let l = c.loop-place in
-    finished a.s.now a.r a.es.now a.ws.now a.cs.now l.q l.es l.ws l.cs l.applied l.place l.invariant (omega (arith, c.if-place-end))
+    let q = c.apply_record in
+    stopped a.s.now a.r a.es.now a.ws.now a.cs.now l.nursery l.es l.ws l.cs l.applied l.place l.invariant (omega (arith, c.loop-place.invariant.inside, c.if-place-s.false)) (λ i. (c.type_inv.s i).fits)
+    (as_step l.nursery (Err c.in-Err.why)) q.new.es q.new.ws q.new.cs c.in-Err.ensures c.in-Err.why refl
 
-pub returns-in-Refused : goal.returns-in-Refused
-returns-in-Refused c =
+pub returns-then-place-s : goal.returns-then-place-s
+returns-then-place-s c =
     let a = c.args in
     let l = c.loop-place in
-    let q = c.apply_record-step in
-    stopped a.s.now a.r a.es.now a.ws.now a.cs.now l.q l.es l.ws l.cs l.applied l.place l.invariant
-    (omega (arith, l.invariant.inside, c.if-place-end)) (λ i. (c.type_inv.s i).fits) q.result q.new.es q.new.ws q.new.cs q.ensures
-    c.in-Refused.field-0 c.in-Refused.is
+    let e : l.place ≡ length a.s.now = c.if-place-s.true in
+    rw e (finished a.s.now a.r a.es.now a.ws.now a.cs.now l.nursery l.es l.ws l.cs l.applied l.place l.invariant e)

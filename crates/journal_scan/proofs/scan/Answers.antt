@@ -3,27 +3,29 @@
 use mathlib.Core.Path.{sym, ap, ◌∙◌}
 use mathlib.Core.List.{List}
 use Prim.Native.Nat.{ℕ}
-use Rattle.blake3.specs.Mode.{mode_of}
-use Rattle.blake3.specs.ModeLaws.{started}
+use Rattle.std.specs.Prelude.{option_copied}
+use Rattle.std.proofs.lemmas.Result.{err_from_is_err_and}
+use Rattle.blake3.specs.Mode.{mode_in}
+use Rattle.blake3.specs.ModeLaws.{started, start-refused, start-taken}
 use Rattle.journal.specs.Journal as journal
 use Rattle.journal.specs.Journal.{not_scanned}
 use Rattle.journal.proofs.ModeLaws.{scan-bad, scan_good}
 use Rattle.journal_scan.proofs.scan.Goals as goal
 
-pub returns-then-bad_key : goal.returns-then-bad_key
+pub returns-in_err-start : goal.returns-in_err-start
 unfolding not_scanned
-returns-then-bad_key c =
+returns-in_err-start c =
     let a = c.args in
-    sym (scan-bad (mode_of a.keyed a.key.now) a.s.now (sym c.bad_key.ensures ∙ c.if-bad_key.true))
-
-pub start_of-start-requires : goal.start_of-start-requires
-start_of-start-requires c = sym c.bad_key.ensures ∙ c.if-bad_key.false
+    let m = mode_in (option_copied a.key) in
+    let p = err_from_is_err_and c.from_residual.result c.from_residual.ensures.1 in
+    let q = start-refused m (sym c.in_err-start.was ∙ c.start_of.ensures) in
+    rw (p.1, p.2, q.1) (sym (scan-bad m a.s.now q.0))
 
 pub returns : goal.returns
 returns c =
     let a = c.args in
-    let m = mode_of a.keyed a.key.now in
-    let good = sym c.bad_key.ensures ∙ c.if-bad_key.false in
+    let m = mode_in (option_copied a.key) in
+    let q = start-taken m (sym c.in_ok-start.was ∙ c.start_of.ensures) in
     c.scan_from.ensures
-    ∙ ap (λ (h : List ℕ → List ℕ). journal.scan h a.s.now) (started m c.start_of-start.ensures)
-    ∙ sym (scan_good m a.s.now good)
+    ∙ ap (λ (h : List ℕ → List ℕ). journal.scan h a.s.now) (started m q.1)
+    ∙ sym (scan_good m a.s.now q.0)

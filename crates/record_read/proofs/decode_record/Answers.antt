@@ -3,25 +3,28 @@
 use mathlib.Core.Path.{sym, ap, ◌∙◌}
 use mathlib.Core.List.{List}
 use Prim.Native.Nat.{ℕ}
-use Rattle.blake3.specs.Mode.{mode_of}
-use Rattle.blake3.specs.ModeLaws.{started}
-use Rattle.format.specs.Calls.{decode_call}
+use Rattle.std.specs.Prelude.{option_copied}
+use Rattle.std.proofs.lemmas.Result.{err_from_is_err_and}
+use Rattle.blake3.specs.Mode.{mode_in}
+use Rattle.blake3.specs.ModeLaws.{started, start-refused, start-taken}
+use Rattle.format.specs.Calls.{decoded_of, decode_call}
 use Rattle.format.proofs.ModeLaws.{decode-bad, decode-good}
 use Rattle.record_read.proofs.decode_record.Goals as goal
 
-pub returns-then-bad_key : goal.returns-then-bad_key
-returns-then-bad_key c =
+pub returns-in_err-start : goal.returns-in_err-start
+unfolding decoded_of
+returns-in_err-start c =
     let a = c.args in
-    c.refusal.ensures ∙ sym (decode-bad (mode_of a.keyed a.key.now) a.s.now (sym c.bad_key.ensures ∙ c.if-bad_key.true))
-
-pub start_of-start-requires : goal.start_of-start-requires
-start_of-start-requires c = sym c.bad_key.ensures ∙ c.if-bad_key.false
+    let m = mode_in (option_copied a.key) in
+    let p = err_from_is_err_and c.from_residual.result c.from_residual.ensures.1 in
+    let q = start-refused m (sym c.in_err-start.was ∙ c.start_of.ensures) in
+    rw (p.1, p.2, q.1) (sym (decode-bad m a.s.now q.0))
 
 pub returns : goal.returns
 returns c =
     let a = c.args in
-    let m = mode_of a.keyed a.key.now in
-    let good = sym c.bad_key.ensures ∙ c.if-bad_key.false in
+    let m = mode_in (option_copied a.key) in
+    let q = start-taken m (sym c.in_ok-start.was ∙ c.start_of.ensures) in
     c.decode_from.ensures
-    ∙ ap (λ (h : List ℕ → List ℕ). decode_call h a.s.now) (started m c.start_of-start.ensures)
-    ∙ sym (decode-good m a.s.now good)
+    ∙ ap (λ (h : List ℕ → List ℕ). decode_call h a.s.now) (started m q.1)
+    ∙ sym (decode-good m a.s.now q.0)

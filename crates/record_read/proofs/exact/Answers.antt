@@ -1,12 +1,16 @@
 -- `record_read::exact`. Whether bytes are left over, by the figures.
 -- Assumes nothing.
-use mathlib.Core.Path.{sym, ◌∙◌}
+use mathlib.Core.Path.{sym}
 use native.Mathlib.Omega.{arith}
+use Rattle.std.specs.Prelude.{Ok}
+use Rattle.format.specs.Returned.{as_decoded}
+use Rattle.format.specs.Calls.{decoded_of}
 use Rattle.record_read.specs.DecodeLaws.{over-refused, none_over}
 use Rattle.record_read.proofs.exact.Goals as goal
 
 pub returns-then-d : goal.returns-then-d
-returns-then-d c = c.refusal.ensures ∙ sym (over-refused c.args.d (omega arith))
+unfolding decoded_of
+returns-then-d c = sym (over-refused (as_decoded (Ok c.args.d)) (omega arith))
 
 pub returns : goal.returns
-returns c = sym (none_over c.args.d (omega arith))
+returns c = sym (none_over (as_decoded (Ok c.args.d)) (omega arith))

@@ -3,33 +3,32 @@
 use mathlib.Core.Path.{sym, ◌∙◌}
 use mathlib.Core.List.{List}
 use Prim.Native.Nat.{ℕ}
-use native.Mathlib.Omega.{arith}
+use Rattle.std.proofs.lemmas.Result.{err_from_is_err_and}
 use Rattle.blake3.specs.Mode.{hash_from}
+use Rattle.format.specs.Calls.{decoded_of}
 use Rattle.record_read.specs.DecodeLaws.{parse-mismatch, parse-payload}
 use Rattle.record_read.proofs.parse_from.Goals as goal
 
-pub hash_matches-requires : goal.hash_matches-requires
-hash_matches-requires c =
-    let f = rw c.in-Len.is at c.frame-f.ensures in
-    omega (arith, f.0, f.1.1)
-
-pub decode_payload-requires : goal.decode_payload-requires
-decode_payload-requires c =
-    let f = rw c.in-Len.is at c.frame-f.ensures in
-    omega (arith, f.0, f.1.1)
+pub returns-in_err-n : goal.returns-in_err-n
+unfolding decoded_of
+returns-in_err-n c =
+    let f = rw c.in_err-n.was at c.frame.ensures in
+    let p = err_from_is_err_and c.from_residual.result c.from_residual.ensures.1 in
+    rw (p.1, p.2) (sym (f (hash_from c.args.start)))
 
 pub returns-then-not-hash_matches : goal.returns-then-not-hash_matches
+unfolding decoded_of
 returns-then-not-hash_matches c =
     let a = c.args in
     let s : List ℕ = a.s.now in
-    let f = rw c.in-Len.is at c.frame-f.ensures in
+    let f = rw c.in_ok-n.was at c.frame.ensures in
     let m = sym c.hash_matches.ensures ∙ c.if-not-hash_matches.true in
-    c.refusal-then-not-hash_matches.ensures ∙ sym (parse-mismatch (hash_from a.start) s c.in-Len.n f m)
+    sym (parse-mismatch (hash_from a.start) s c.in_ok-n.n f m)
 
-pub returns-else-not-hash_matches : goal.returns-else-not-hash_matches
-returns-else-not-hash_matches c =
+pub returns : goal.returns
+returns c =
     let a = c.args in
     let s : List ℕ = a.s.now in
-    let f = rw c.in-Len.is at c.frame-f.ensures in
+    let f = rw c.in_ok-n.was at c.frame.ensures in
     let m = sym c.hash_matches.ensures ∙ c.if-not-hash_matches.false in
-    c.decode_payload.ensures ∙ sym (parse-payload (hash_from a.start) s c.in-Len.n f m)
+    c.decode_payload.ensures ∙ sym (parse-payload (hash_from a.start) s c.in_ok-n.n f m)

@@ -12,4 +12,4 @@ pub returns : goal.returns
 unfolding hash_by
 returns c =
     let s : List ℕ = c.args.s.now in
-    c.parse_from.ensures ∙ ap (λ (h : List ℕ → List ℕ). parse_call h s) (started unkeyed c.without_key-start.ensures)
+    c.parse_from.ensures ∙ ap (λ (h : List ℕ → List ℕ). parse_call h s) (started unkeyed c.without_key.ensures)

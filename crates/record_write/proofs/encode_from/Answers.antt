@@ -19,34 +19,34 @@ returns-in_default c =
     let a = c.args in
     let w = length_width a.wide in
     let past = removes-past w a.inserts a.removes a.items.now (sym c.removes_at.ensures ∙ c.in_default.is) in
-    rw c.refusal.ensures (sym (encode-broken (hash_from a.start) (length-hash_from a.start) a.id a.wide a.inserts a.removes a.items.now a.out.now past))
+    sym (encode-broken (hash_from a.start) (length-hash_from a.start) a.id a.wide a.inserts a.removes a.items.now a.out.now past)
 
 pub any_too_long-requires : goal.any_too_long-requires
 any_too_long-requires c =
     let a = c.args in
     let w = length_width a.wide in
-    let there = removes-at w a.inserts a.removes a.items.now c.in-At.end (sym c.removes_at.ensures ∙ c.in-At.is) in
+    let there = removes-at w a.inserts a.removes a.items.now c.in-Some.end (sym c.removes_at.ensures ∙ c.in-Some.is) in
     there.0
 
 pub returns-then-any_too_long : goal.returns-then-any_too_long
 returns-then-any_too_long c =
     let a = c.args in
     let w = length_width a.wide in
-    let there = removes-at w a.inserts a.removes a.items.now c.in-At.end (sym c.removes_at.ensures ∙ c.in-At.is) in
-    rw c.refusal-then-any_too_long.ensures (sym (encode-long (hash_from a.start) (length-hash_from a.start) a.id a.wide a.inserts a.removes a.items.now a.out.now there.0 (sym c.any_too_long.ensures ∙ c.if-any_too_long.true)))
+    let there = removes-at w a.inserts a.removes a.items.now c.in-Some.end (sym c.removes_at.ensures ∙ c.in-Some.is) in
+    sym (encode-long (hash_from a.start) (length-hash_from a.start) a.id a.wide a.inserts a.removes a.items.now a.out.now there.0 (sym c.any_too_long.ensures ∙ c.if-any_too_long.true))
 
 pub cell_bytes-cells-requires : goal.cell_bytes-cells-requires
 cell_bytes-cells-requires c =
     let a = c.args in
     let w = length_width a.wide in
-    let there = removes-at w a.inserts a.removes a.items.now c.in-At.end (sym c.removes_at.ensures ∙ c.in-At.is) in
+    let there = removes-at w a.inserts a.removes a.items.now c.in-Some.end (sym c.removes_at.ensures ∙ c.in-Some.is) in
     rw there.1 (heads-fit w a.inserts a.items.now (fit-inserts w a.inserts a.removes a.items.now there.0))
 
 pub metadata_len-metadata-requires : goal.metadata_len-metadata-requires
 metadata_len-metadata-requires c =
     let a = c.args in
     let w = length_width a.wide in
-    let there = removes-at w a.inserts a.removes a.items.now c.in-At.end (sym c.removes_at.ensures ∙ c.in-At.is) in
+    let there = removes-at w a.inserts a.removes a.items.now c.in-Some.end (sym c.removes_at.ensures ∙ c.in-Some.is) in
     let short = sym c.any_too_long.ensures ∙ c.if-any_too_long.false in
     (few-inserts w a.inserts a.removes a.items.now short, few-removes w a.inserts a.removes a.items.now short)
 
@@ -54,7 +54,7 @@ pub overflow_add-payload : goal.overflow_add-payload
 overflow_add-payload c =
     let a = c.args in
     let w = length_width a.wide in
-    let there = removes-at w a.inserts a.removes a.items.now c.in-At.end (sym c.removes_at.ensures ∙ c.in-At.is) in
+    let there = removes-at w a.inserts a.removes a.items.now c.in-Some.end (sym c.removes_at.ensures ∙ c.in-Some.is) in
     let short = sym c.any_too_long.ensures ∙ c.if-any_too_long.false in
     let cells = c.cell_bytes-cells.ensures ∙ ap (λ (e : ℕ). e - a.inserts * (44 + w)) there.1 ∙ cells_left w a.inserts a.items.now (fit-inserts w a.inserts a.removes a.items.now there.0) in
     omega (arith, c.metadata_len-metadata.ensures, cells, few-inserts w a.inserts a.removes a.items.now short, few-removes w a.inserts a.removes a.items.now short, few_bytes w a.inserts a.removes a.items.now short)
@@ -63,7 +63,7 @@ pub overflow_add-len : goal.overflow_add-len
 overflow_add-len c =
     let a = c.args in
     let w = length_width a.wide in
-    let there = removes-at w a.inserts a.removes a.items.now c.in-At.end (sym c.removes_at.ensures ∙ c.in-At.is) in
+    let there = removes-at w a.inserts a.removes a.items.now c.in-Some.end (sym c.removes_at.ensures ∙ c.in-Some.is) in
     let short = sym c.any_too_long.ensures ∙ c.if-any_too_long.false in
     let cells = c.cell_bytes-cells.ensures ∙ ap (λ (e : ℕ). e - a.inserts * (44 + w)) there.1 ∙ cells_left w a.inserts a.items.now (fit-inserts w a.inserts a.removes a.items.now there.0) in
     omega (arith, c.metadata_len-metadata.ensures, cells, few-inserts w a.inserts a.removes a.items.now short, few-removes w a.inserts a.removes a.items.now short, few_bytes w a.inserts a.removes a.items.now short)
@@ -72,16 +72,16 @@ pub returns-then-out-len : goal.returns-then-out-len
 returns-then-out-len c =
     let a = c.args in
     let w = length_width a.wide in
-    let there = removes-at w a.inserts a.removes a.items.now c.in-At.end (sym c.removes_at.ensures ∙ c.in-At.is) in
+    let there = removes-at w a.inserts a.removes a.items.now c.in-Some.end (sym c.removes_at.ensures ∙ c.in-Some.is) in
     let short = sym c.any_too_long.ensures ∙ c.if-any_too_long.false in
     let cells = c.cell_bytes-cells.ensures ∙ ap (λ (e : ℕ). e - a.inserts * (44 + w)) there.1 ∙ cells_left w a.inserts a.items.now (fit-inserts w a.inserts a.removes a.items.now there.0) in
-    rw c.refusal-then-out-len.ensures (sym (encode-full (hash_from a.start) (length-hash_from a.start) a.id a.wide a.inserts a.removes a.items.now a.out.now there.0 short (omega (arith, c.metadata_len-metadata.ensures, cells))))
+    sym (encode-full (hash_from a.start) (length-hash_from a.start) a.id a.wide a.inserts a.removes a.items.now a.out.now there.0 short (omega (arith, c.metadata_len-metadata.ensures, cells)))
 
 pub write_body-requires : goal.write_body-requires
 write_body-requires c =
     let a = c.args in
     let w = length_width a.wide in
-    let there = removes-at w a.inserts a.removes a.items.now c.in-At.end (sym c.removes_at.ensures ∙ c.in-At.is) in
+    let there = removes-at w a.inserts a.removes a.items.now c.in-Some.end (sym c.removes_at.ensures ∙ c.in-Some.is) in
     let short = sym c.any_too_long.ensures ∙ c.if-any_too_long.false in
     let cells = c.cell_bytes-cells.ensures ∙ ap (λ (e : ℕ). e - a.inserts * (44 + w)) there.1 ∙ cells_left w a.inserts a.items.now (fit-inserts w a.inserts a.removes a.items.now there.0) in
     let m = c.metadata_len-metadata.ensures in
@@ -91,7 +91,7 @@ pub returns : goal.returns
 returns c =
     let a = c.args in
     let w = length_width a.wide in
-    let there = removes-at w a.inserts a.removes a.items.now c.in-At.end (sym c.removes_at.ensures ∙ c.in-At.is) in
+    let there = removes-at w a.inserts a.removes a.items.now c.in-Some.end (sym c.removes_at.ensures ∙ c.in-Some.is) in
     let short = sym c.any_too_long.ensures ∙ c.if-any_too_long.false in
     let cells = c.cell_bytes-cells.ensures ∙ ap (λ (e : ℕ). e - a.inserts * (44 + w)) there.1 ∙ cells_left w a.inserts a.items.now (fit-inserts w a.inserts a.removes a.items.now there.0) in
     let m = c.metadata_len-metadata in
