@@ -9,9 +9,13 @@ ghost use Rattle.rows.specs.Table.{rows_of, Laid};
 ghost use Rattle.rows.specs.Keys.{keys, first_word};
 ghost use Rattle.counters.specs.Layout.{count_row};
 ghost use Rattle.counters.specs.Held.{InOrder};
-ghost use Rattle.counters.specs.Steps.{row_at, transition, transitions};
+ghost use Rattle.counters.specs.Steps.{row_at, transitions};
 ghost use Rattle.counter_merge.specs.Passes.{standing, replaced, hits, any_hit, mark_one, marked, is_new, new_rows, front_one, fronts, back_one, backs, joined, front_last, last_at};
 ghost use Rattle.counter_merge.specs.Halves.{Halves, Apart};
+
+use counter_steps::Pass;
+use counters::CounterTransition;
+use lent_batches::Transitions;
 
 // Gives the row of idx the count new, if there is such a row. Returns whether there is.
 fn replace(t: &mut [u64], n: usize, idx: u64, new: u64) -> bool
@@ -19,38 +23,32 @@ fn replace(t: &mut [u64], n: usize, idx: u64, new: u64) -> bool
     ensures { (result ≡ elem idx (keys first_word 2 n t.old)) × (t.new ≡ rows-table.table_of count_row (length t.old) (replaced idx new (rows_of count_row n t.old))) }
 {
     let k = row_search::find(t, 2, n, idx);
-    if k < n {
-        if t[k * 2] == idx {
-            t[k * 2 + 1] = new;
-            return true;
-        }
+    if k < n && t[k * 2] == idx {
+        t[k * 2 + 1] = new;
+        return true;
     }
     false
 }
 
 // Marks the row of a transition that is kept and leaves none: its count is the new one, 0 or 1. Returns whether there was a row.
-fn mark_one(t: &mut [u64], n: usize, idx: u64, old: u64, new: u64) -> bool
+fn mark_one(t: &mut [u64], n: usize, x: CounterTransition) -> bool
     requires { InOrder n t.old }
-    ensures { (result ≡ hits (keys first_word 2 n t.old) (transition idx old new)) × (t.new ≡ rows-table.table_of count_row (length t.old) (mark_one (transition idx old new) (rows_of count_row n t.old))) }
+    ensures { (result ≡ hits (keys first_word 2 n t.old) x) × (t.new ≡ rows-table.table_of count_row (length t.old) (mark_one x (rows_of count_row n t.old))) }
 {
-    if counter_steps::is_due(false, idx, old, new) {
-        return replace(t, n, idx, new);
+    if counter_steps::is_due(Pass::Free, x) {
+        return replace(t, n, x.idx.0, x.new_raw);
     }
     false
 }
 
 // Marks the rows of all of them. Returns whether there was one.
-pub fn mark(t: &mut [u64], n: usize, b: &[u64]) -> bool
+pub fn mark<B: Transitions>(t: &mut [u64], n: usize, b: B) -> bool
     requires { InOrder n t.old }
-    ensures { (result ≡ any_hit (keys first_word 2 n t.old) (transitions b.now)) × (t.new ≡ rows-table.table_of count_row (length t.old) (marked (transitions b.now) (rows_of count_row n t.old))) }
+    ensures { (result ≡ any_hit (keys first_word 2 n t.old) (transitions (B.words b))) × (t.new ≡ rows-table.table_of count_row (length t.old) (marked (transitions (B.words b)) (rows_of count_row n t.old))) }
 {
-    let m = b.len() / 3;
     let mut hit = false;
-    let mut i = 0;
-    while i < m {
-        let one = mark_one(t, n, b[i * 3], b[i * 3 + 1], b[i * 3 + 2]);
-        hit = hit | one;
-        i += 1;
+    for i in 0..b.count() {
+        hit |= mark_one(t, n, b.at(i));
     }
     hit
 }
@@ -84,13 +82,10 @@ pub fn compact(t: &mut [u64], n: usize) -> usize
     ensures { (result ≡ length (standing (rows_of count_row n t.old))) × (t.new ≡ rows-table.table_of count_row (length t.old) (standing (rows_of count_row n t.old))) }
 {
     let mut to = 0;
-    let mut i = 0;
-    while i < n {
-        let next = keep_row(t, i, to);
-        to = next;
-        i += 1;
+    for i in 0..n {
+        to = keep_row(t, i, to);
     }
-    word_slices::fill(t, to * 2, (n - to) * 2, 0);
+    slices::fill(t, to * 2, (n - to) * 2, 0);
     to
 }
 
@@ -100,70 +95,58 @@ fn has_row(t: &[u64], n: usize, idx: u64) -> bool
     ensures { result ≡ elem idx (keys first_word 2 n t.now) }
 {
     let k = row_search::find(t, 2, n, idx);
-    if k < n {
-        return t[k * 2] == idx;
-    }
-    false
+    k < n && t[k * 2] == idx
 }
 
 // 1 for a transition that is kept and leaves a row where there is none, else 0.
-fn is_new(t: &[u64], n: usize, idx: u64, old: u64, new: u64) -> usize
+fn is_new(t: &[u64], n: usize, x: CounterTransition) -> usize
     requires { InOrder n t.now }
-    ensures { result ≡ pick (is_new (keys first_word 2 n t.now) (transition idx old new)) 1 0 }
+    ensures { result ≡ pick (is_new (keys first_word 2 n t.now) x) 1 0 }
 {
-    if counter_steps::is_due(true, idx, old, new) {
-        if has_row(t, n, idx) {
-            return 0;
-        }
-        return 1;
+    if counter_steps::is_due(Pass::Store, x) && !has_row(t, n, x.idx.0) {
+        1
+    } else {
+        0
     }
-    0
 }
 
 // How many of them there are.
-pub fn new_rows(t: &[u64], n: usize, b: &[u64]) -> usize
+pub fn new_rows<B: Transitions>(t: &[u64], n: usize, b: B) -> usize
     requires { InOrder n t.now }
-    ensures { result ≡ new_rows (keys first_word 2 n t.now) (transitions b.now) }
+    ensures { result ≡ new_rows (keys first_word 2 n t.now) (transitions (B.words b)) }
 {
-    let m = b.len() / 3;
     let mut k = 0;
-    let mut i = 0;
-    while i < m {
-        k += is_new(t, n, b[i * 3], b[i * 3 + 1], b[i * 3 + 2]);
-        i += 1;
+    for i in 0..b.count() {
+        k += is_new(t, n, b.at(i));
     }
     k
 }
 
 // Applies one transition, if it is kept and leaves a row: its row gets the new count in place, or a row is laid aside from the word `at` on.
 // Returns how many rows are laid aside then.
-fn put_one(t: &mut [u64], n: usize, at: usize, s: usize, idx: u64, old: u64, new: u64) -> usize
+fn put_one(t: &mut [u64], n: usize, at: usize, s: usize, x: CounterTransition) -> usize
     requires halves { Halves n at s t.old }
-    requires t_in_bounds { at + length (back_one (keys first_word 2 n (take at t.old)) (transition idx old new) (rows_of count_row s (drop at t.old))) * 2 ≤ length t.old }
-    ensures { (result ≡ length (back_one (keys first_word 2 n (take at t.old)) (transition idx old new) (rows_of count_row s (drop at t.old)))) × (t.new ≡ rows-table.table_of count_row at (front_one (transition idx old new) (rows_of count_row n (take at t.old))) ++ rows-table.table_of count_row (length t.old - at) (back_one (keys first_word 2 n (take at t.old)) (transition idx old new) (rows_of count_row s (drop at t.old)))) }
+    requires t_in_bounds { at + length (back_one (keys first_word 2 n (take at t.old)) x (rows_of count_row s (drop at t.old))) * 2 ≤ length t.old }
+    ensures { (result ≡ length (back_one (keys first_word 2 n (take at t.old)) x (rows_of count_row s (drop at t.old)))) × (t.new ≡ rows-table.table_of count_row at (front_one x (rows_of count_row n (take at t.old))) ++ rows-table.table_of count_row (length t.old - at) (back_one (keys first_word 2 n (take at t.old)) x (rows_of count_row s (drop at t.old)))) }
 {
-    if counter_steps::is_due(true, idx, old, new) {
-        if replace(&mut t[..at], n, idx, new) {
+    if counter_steps::is_due(Pass::Store, x) {
+        if replace(&mut t[..at], n, x.idx.0, x.new_raw) {
             return s;
         }
-        return counter_rows::set_count(&mut t[at..], s, idx, new);
+        return counter_rows::set_count(&mut t[at..], s, x.idx.0, x.new_raw);
     }
     s
 }
 
 // Applies all of them. Returns how many rows are laid aside.
-pub fn put_all(t: &mut [u64], n: usize, at: usize, b: &[u64]) -> usize
+pub fn put_all<B: Transitions>(t: &mut [u64], n: usize, at: usize, b: B) -> usize
     requires halves { Halves n at 0 t.old }
-    requires b_in_bounds { at + new_rows (keys first_word 2 n (take at t.old)) (transitions b.now) * 2 ≤ length t.old }
-    ensures { (result ≡ length (backs (keys first_word 2 n (take at t.old)) (transitions b.now) [])) × (t.new ≡ rows-table.table_of count_row at (fronts (transitions b.now) (rows_of count_row n (take at t.old))) ++ rows-table.table_of count_row (length t.old - at) (backs (keys first_word 2 n (take at t.old)) (transitions b.now) [])) }
+    requires b_in_bounds { at + new_rows (keys first_word 2 n (take at t.old)) (transitions (B.words b)) * 2 ≤ length t.old }
+    ensures { (result ≡ length (backs (keys first_word 2 n (take at t.old)) (transitions (B.words b)) [])) × (t.new ≡ rows-table.table_of count_row at (fronts (transitions (B.words b)) (rows_of count_row n (take at t.old))) ++ rows-table.table_of count_row (length t.old - at) (backs (keys first_word 2 n (take at t.old)) (transitions (B.words b)) [])) }
 {
-    let m = b.len() / 3;
     let mut s = 0;
-    let mut i = 0;
-    while i < m {
-        let next = put_one(t, n, at, s, b[i * 3], b[i * 3 + 1], b[i * 3 + 2]);
-        s = next;
-        i += 1;
+    for i in 0..b.count() {
+        s = put_one(t, n, at, s, b.at(i));
     }
     s
 }
@@ -176,11 +159,9 @@ fn merge_one(t: &mut [u64], i: usize, left: usize, at: usize) -> usize
 {
     let from = at + (left - i - 1) * 2;
     let to = (left - 1) * 2;
-    if 0 < i {
-        if t[from] < t[(i - 1) * 2] {
-            copy_row(t, (i - 1) * 2, to);
-            return i - 1;
-        }
+    if 0 < i && t[from] < t[(i - 1) * 2] {
+        copy_row(t, (i - 1) * 2, to);
+        return i - 1;
     }
     copy_row(t, from, to);
     i
@@ -195,10 +176,9 @@ pub fn merge(t: &mut [u64], n: usize, at: usize, s: usize) -> usize
     let mut i = n;
     let mut left = n + s;
     while i < left {
-        let next = merge_one(t, i, left, at);
-        i = next;
+        i = merge_one(t, i, left, at);
         left -= 1;
     }
-    word_slices::fill(t, at, s * 2, 0);
+    slices::fill(t, at, s * 2, 0);
     n + s
 }

@@ -1,57 +1,38 @@
-// A batch that is lent as a slice of records. `apply_batch` only walks over the records; all work is done by functions on a record's
-// index, old and new (`counter_walk`), which are told where the walk is by what it holds.
+// A batch that is lent as a slice of records: the same batch, on the words that spell them.
 #![tactic(auto)]
 
 ghost use Rattle.std.specs.Prelude.{◌≡◌};
 ghost use Rattle.counters.specs.Layout.{words_of};
 ghost use Rattle.counters.specs.Calls.{effect, batch_call};
-ghost use Rattle.counters.specs.Steps.{transition};
-ghost use Rattle.counter_walk.specs.Walk.{turned, turned_table, finished, Ready};
+ghost use Rattle.counters.specs.Returned.{as_applied};
 
-use counter_walk::{Phase, Walk};
-use counters::{Applied, CounterTransition, Counters, NextIdx};
+use base::Refusal;
+use counters::{CounterTransition, Counters};
+use lent_batches::Transitions;
 
-// A record, by the phase.
-fn turn(t: &mut [u64], s: Walk, idx: u64, old: u64, new: u64) -> Walk
-    requires { Ready s.phase s t.old (transition idx old new) }
-    ensures { (result ≡ turned s.phase t.old (transition idx old new) s) × (t.new ≡ turned_table s.phase t.old (transition idx old new) s) }
-{
-    let phase = s.phase;
-    match phase {
-        Phase::Look => counter_walk::look(t, s, idx, old, new),
-        Phase::Again => counter_walk::ask_again(t, s, idx, old, new),
-        Phase::Free => counter_walk::apply(t, s, idx, old, new, false),
-        Phase::Store => counter_walk::apply(t, s, idx, old, new, true),
-        Phase::End => s,
+// Records that a caller lends.
+#[derive(Clone, Copy)]
+struct Records<'a>(&'a [CounterTransition]);
+
+impl Transitions for Records<'_> {
+    ghost words = { λ b. words_of b.0.now };
+
+    fn count(self) -> usize {
+        self.0.len()
     }
-}
 
-// What is returned when the walk is over.
-fn finish(s: Walk) -> Applied
-    ensures { result ≡ finished s }
-{
-    let c = s.counters;
-    let answer = s.answer;
-    let maintenance = c.maintenance;
-    let settings = c.settings;
-    let counters = Counters {
-        next_idx: NextIdx(c.next_idx.0),
-        live_cells: c.live_cells,
-        stored: s.rows,
-        maintenance,
-        settings,
-    };
-    Applied { answer, counters }
+    fn is_whole(self) -> bool {
+        true
+    }
+
+    fn at(self, i: usize) -> CounterTransition {
+        self.0[i]
+    }
 }
 
 // A batch of records: taken whole or refused whole, and a refusal changes nothing.
-pub fn apply_batch(c: Counters, t: &mut [u64], b: &[CounterTransition]) -> Applied
-    ensures { effect result t.new ≡ batch_call c t.old (words_of b.now) }
+pub fn apply_batch(c: Counters, t: &mut [u64], b: &[CounterTransition]) -> Result<Counters, Refusal>
+    ensures { effect (as_applied c result) t.new ≡ batch_call c t.old (words_of b.now) }
 {
-    let mut s = counter_walk::begin(c, t, b.len());
-    while s.at < b.len() {
-        let r = b[s.at];
-        s = turn(t, s, r.idx.0, r.old_raw, r.new_raw);
-    }
-    finish(s)
+    counter_batch::apply_batch(c, t, Records(b))
 }

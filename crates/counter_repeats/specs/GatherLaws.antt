@@ -1,6 +1,6 @@
 -- The indices that a batch's kept transitions name, taken out of its words one after the other.
 -- Assumes nothing.
-use Rattle.std.specs.Prelude.{◌≡◌, refl, true, false, ℕ, suc, ◌+◌, ◌*◌, ◌/◌, ◌≤◌, ◌<◌, get_or, set}
+use Rattle.std.specs.Prelude.{◌≡◌, refl, true, false, ℕ, suc, ◌+◌, ◌/◌, ◌≤◌, ◌<◌, set}
 use Rattle.std.proofs.Math.Path.{sym, ap}
 use Rattle.std.proofs.Common.{◌∙◌, arith, add-one, eq-eqb, ne_eqb, length-set, take-append-drop, take-suc-set, drop-set-lt, length-take-le}
 use mathlib.Core.List.{List, [], ◌∷◌, ◌++◌, append-nil}
@@ -11,7 +11,8 @@ use Rattle.slices.specs.Laws.{drop-same}
 use Rattle.counters.specs.declared.CounterTransition.{CounterTransition}
 use Rattle.counters.specs.Batch.{changes, kept, named}
 use Rattle.counters.specs.Steps.{transition_at, transitions}
-use Rattle.counters.proofs.StepLaws.{from-transition, no-transition}
+use Rattle.counters.proofs.StepLaws.{no-transition}
+use Rattle.lent_batches.proofs.LentLaws.{met}
 
 -- a transition names its index if it is kept
 module _ (x : CounterTransition) (xs : List CounterTransition) where
@@ -43,13 +44,12 @@ module _ (t b : List ℕ) (room : length b / 3 ≤ length t) where
   gather-start = record { some = omega arith; within = omega arith; long = refl; rest = refl; front = refl }
 
   module _ (s : List ℕ) (k i : ℕ) (g : Gathered t b s k i) where
-    pub gather-kept : i < length b / 3 → (get_or b (i * 3 + 1) 0 ≡ get_or b (i * 3 + 2) 0 → ⊥) → Gathered t b (set s k (get_or b (i * 3) 0)) (k + 1) (i + 1)
-    gather-kept h d =
-        let x = transition_at b i in
-        let v : ℕ = get_or b (i * 3) 0 in
-        let c : changes x ≡ true = rw (ne_eqb (get_or b (i * 3 + 1) 0) (get_or b (i * 3 + 2) 0) d) in
+    pub gather-kept : (x : CounterTransition) → x ≡ transition_at b i → i < length b / 3 → (x.old_raw ≡ x.new_raw → ⊥) → Gathered t b (set s k x.idx.0) (k + 1) (i + 1)
+    gather-kept x is h d =
+        let v = x.idx.0 in
+        let c : changes x ≡ true = rw (ne_eqb x.old_raw x.new_raw d) in
         let r = named (kept (drop (suc i) (transitions b))) in
-        let e : named (kept (drop i (transitions b))) ≡ v ∷ r = rw (from-transition b i h) (named-kept x (drop (suc i) (transitions b)) c) in
+        let e : named (kept (drop i (transitions b))) ≡ v ∷ r = rw (met b i x is h) (named-kept x (drop (suc i) (transitions b)) c) in
         record {
           some = omega arith;
           within = omega arith;
@@ -63,12 +63,11 @@ module _ (t b : List ℕ) (room : length b / 3 ≤ length t) where
               ∙ g.front);
         }
 
-    pub gather-dropped : i < length b / 3 → get_or b (i * 3 + 1) 0 ≡ get_or b (i * 3 + 2) 0 → Gathered t b s k (i + 1)
-    gather-dropped h d =
-        let x = transition_at b i in
-        let c : changes x ≡ false = rw (eq-eqb (get_or b (i * 3 + 1) 0) (get_or b (i * 3 + 2) 0) d) in
+    pub gather-dropped : (x : CounterTransition) → x ≡ transition_at b i → i < length b / 3 → x.old_raw ≡ x.new_raw → Gathered t b s k (i + 1)
+    gather-dropped x is h d =
+        let c : changes x ≡ false = rw (eq-eqb x.old_raw x.new_raw d) in
         let e : named (kept (drop i (transitions b))) ≡ named (kept (drop (suc i) (transitions b))) =
-        rw (from-transition b i h) (named-dropped x (drop (suc i) (transitions b)) c) in
+        rw (met b i x is h) (named-dropped x (drop (suc i) (transitions b)) c) in
         record {
           some = omega (arith, g.some);
           within = omega arith;

@@ -17,38 +17,21 @@ fn all_sound(t: &[u64], n: usize, next: u64) -> bool
     requires { n * 2 ≤ length t.now }
     ensures { result ≡ all (sound next) (rows_of count_row n t.now) }
 {
-    let mut i = 0;
-    while i < n {
-        if next <= t[i * 2] {
-            return false;
-        }
-        if t[i * 2 + 1] < 2 {
-            return false;
-        }
-        i += 1;
-    }
-    true
+    t[..n * 2]
+        .chunks_exact(2)
+        .all(|row| row[0] < next && 2 <= row[1])
 }
 
 // Whether the record and the table are those of a state: settings in their ranges, no more rows than cells, and a pass over the table.
 pub fn holds(c: Counters, t: &[u64]) -> bool
     ensures { result ≡ layout.holds c t.now }
 {
-    let settings = c.settings;
-    if !shrink_rules::in_range(settings) {
-        return false;
-    }
     let n = c.stored;
-    if c.live_cells < n as u64 {
-        return false;
-    }
-    if !row_checks::holds_rows(t, 2, n) {
-        return false;
-    }
-    if !row_checks::ascend(t, 2, n) {
-        return false;
-    }
-    all_sound(t, n, c.next_idx.0)
+    shrink_rules::in_range(c.settings)
+        && n as u64 <= c.live_cells
+        && row_checks::holds_rows(t, 2, n)
+        && row_checks::ascend::<u64>(t, 2, n)
+        && all_sound(t, n, c.next_idx.0)
 }
 
 // How many rows a search by halves leaves to be looked at one by one.
@@ -60,16 +43,12 @@ pub fn stored_at(t: &[u64], n: usize, idx: u64) -> u64
     requires { InOrder n t.now }
     ensures { result ≡ stored_at idx (rows_of count_row n t.now) }
 {
-    let mut k = row_search::narrow(t, 2, n, idx, SCAN);
-    while k < n {
+    let start = row_search::narrow(t, 2, n, idx, SCAN);
+    for k in start..n {
         let here = t[k * 2];
         if idx <= here {
-            if here == idx {
-                return t[k * 2 + 1];
-            }
-            return 0;
+            return if here == idx { t[k * 2 + 1] } else { 0 };
         }
-        k += 1;
     }
     0
 }
@@ -83,19 +62,16 @@ pub fn set_count(t: &mut [u64], n: usize, idx: u64, new: u64) -> usize
     let k = row_search::find(t, 2, n, idx);
     let at = k * 2;
     let end = n * 2;
-    if k < n {
-        if t[at] == idx {
-            if 2 <= new {
-                t[at + 1] = new;
-                return n;
-            }
-            row_moves::remove_row(t, at, end, 2);
-            return n - 1;
+    if k < n && t[at] == idx {
+        if 2 <= new {
+            t[at + 1] = new;
+            return n;
         }
+        row_moves::remove_row(t, at, end, 2);
+        return n - 1;
     }
     if 2 <= new {
-        let row = [idx, new];
-        row_moves::insert_row(t, at, end, &row);
+        row_moves::insert_row(t, at, end, &[idx, new]);
         return n + 1;
     }
     n

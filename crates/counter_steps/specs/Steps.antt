@@ -8,6 +8,8 @@ use Rattle.counters.specs.Maintenance.{falls, rises, clears}
 use Rattle.counters.specs.Batch.{changes, kept, birth, death}
 use Rattle.counter_steps.specs.declared.Kind.{Kind}
 use Rattle.counter_steps.specs.declared.Kind.TheVariants.{Birth, Death, Rise, Fall, Clear}
+use Rattle.counter_steps.specs.declared.Pass.{Pass}
+use Rattle.counter_steps.specs.declared.Pass.TheVariants.{Free, Store}
 
 -- the transitions of a kind
 abbrev pub of_kind : Kind → CounterTransition → Bool
@@ -21,6 +23,11 @@ of_kind (Clear k) t = clears k t
 abbrev pub leaves_row : Bool → CounterTransition → Bool
 leaves_row true t = leb 2 t.new_raw
 leaves_row false t = not (leb 2 t.new_raw)
+
+-- which of them a pass applies
+abbrev pub stores : Pass → Bool
+stores Free = false
+stores Store = true
 
 -- one pass over a batch: the kept transitions that do, or those that don't
 unfoldable pub pass_of : Bool → List CounterTransition → List CounterTransition

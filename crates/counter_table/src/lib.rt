@@ -2,18 +2,22 @@
 #![tactic(auto)]
 
 ghost use Rattle.std.specs.Prelude.{◌≡◌};
-ghost use Rattle.counters.specs.Counts as counts;
-ghost use Rattle.counters.specs.Layout.{record_of};
-ghost use Rattle.counters.specs.Calls.{effect, new_call, alloc_call};
+ghost use Rattle.counters.specs.Calls.{effect, no_counters, new_call, alloc_call};
+ghost use Rattle.counters.specs.Returned.{as_applied, as_allocated};
 
-use base::{Answer, Refusal};
-use counters::{Allocated, Applied, CounterMaintenance, Counters, Idx, NextIdx, ShrinkSettings};
+use base::Refusal;
+use counters::{CounterMaintenance, Counters, Idx, NextIdx, ShrinkSettings};
 
-// The record of fresh counters at a next index: nothing stored, and the threshold at the base.
-fn fresh(next_idx: NextIdx, settings: ShrinkSettings) -> Counters
-    ensures { result ≡ record_of settings (counts.fresh settings.base next_idx.0) }
+// Fresh counters at a next index, in a table of any content: nothing stored, and the threshold at the base. Settings outside their ranges are
+// refused before anything is written.
+pub fn new(next_idx: NextIdx, settings: ShrinkSettings, t: &mut [u64]) -> Result<Counters, Refusal>
+    ensures { effect (as_applied no_counters result) t.new ≡ new_call settings next_idx t.old }
 {
-    Counters {
+    if !shrink_rules::in_range(settings) {
+        return Err(Refusal::BadSetting);
+    }
+    t.fill(0);
+    Ok(Counters {
         next_idx,
         live_cells: 0,
         stored: 0,
@@ -23,57 +27,21 @@ fn fresh(next_idx: NextIdx, settings: ShrinkSettings) -> Counters
             min_alive_removed_before_shrink: settings.base,
         },
         settings,
-    }
-}
-
-// Fresh counters at a next index, in a table of any content. Settings outside their ranges are refused before anything is written.
-pub fn new(next_idx: NextIdx, settings: ShrinkSettings, t: &mut [u64]) -> Applied
-    ensures { effect result t.new ≡ new_call settings next_idx t.old }
-{
-    if !shrink_rules::in_range(settings) {
-        let none = ShrinkSettings {
-            base: 0,
-            max: 0,
-            good_save: 0,
-        };
-        let counters = fresh(NextIdx(0), none);
-        return Applied {
-            answer: Answer::Refused(Refusal::BadSetting),
-            counters,
-        };
-    }
-    let n = t.len();
-    word_slices::fill(t, 0, n, 0);
-    let counters = fresh(next_idx, settings);
-    Applied {
-        answer: Answer::Taken,
-        counters,
-    }
+    })
 }
 
 // Hands out the next index. It is lent no table and never answers that one is broken.
-pub fn alloc_idx(c: Counters) -> Allocated
-    ensures { result ≡ alloc_call c }
+#[tactic(auto, unfolding(counters::specs::Calls::alloc_call, counters::specs::Calls::allocated, counters::specs::Counts::allocate, counters::specs::Layout::with_next))]
+pub fn alloc_idx(c: Counters) -> Result<(Idx, Counters), Refusal>
+    ensures { as_allocated c result ≡ alloc_call c }
 {
-    let next = c.next_idx.0;
-    if next == 0xFFFF_FFFF_FFFF_FFFF {
-        return Allocated {
-            answer: Answer::Refused(Refusal::Spent),
-            idx: Idx(0),
-            counters: c,
-        };
-    }
-    let maintenance = c.maintenance;
-    let settings = c.settings;
-    Allocated {
-        answer: Answer::Taken,
-        idx: Idx(next),
-        counters: Counters {
-            next_idx: NextIdx(next + 1),
-            live_cells: c.live_cells,
-            stored: c.stored,
-            maintenance,
-            settings,
+    let idx = c.next_idx.0;
+    let after = idx.checked_add(1).ok_or(Refusal::Spent)?;
+    Ok((
+        Idx(idx),
+        Counters {
+            next_idx: NextIdx(after),
+            ..c
         },
-    }
+    ))
 }

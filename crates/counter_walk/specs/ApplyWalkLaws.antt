@@ -20,9 +20,7 @@ use Rattle.counters.proofs.WordLaws.{words-transitions}
 use Rattle.counters.specs.Steps.{transition}
 use Rattle.counter_steps.specs.Steps.{apply_one}
 use Rattle.counter_steps.specs.PassLaws.{two-passes}
-use Rattle.counter_walk.specs.declared.Phase.{Phase}
-use Rattle.counter_walk.specs.declared.Phase.TheVariants.{Free, Store, End}
-use Rattle.counter_walk.specs.declared.Walk.{Walk}
+use Rattle.counter_walk.specs.Held.{Phase, Free, Store, End, Walk}
 use Rattle.counter_walk.specs.SomeLaws.{Seen, seen_one, seen_all}
 use Rattle.counter_walk.specs.Walk.{moved, applied, applied_table, with_rows}
 use Rattle.counter_walk.specs.InvWalkLaws.{entries, goal, Applying, applying, over, goal-fits, left_in, Lands}

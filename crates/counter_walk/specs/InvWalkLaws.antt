@@ -3,7 +3,7 @@
 use Rattle.std.specs.Prelude.{◌≡◌, Bool, true, false, ◌||◌, List, [], ℕ, zero, suc, ◌+◌, ◌-◌, ◌*◌, ◌^◌, ◌≤◌, ◌<◌, length, drop, get_or}
 use Rattle.std.proofs.Common.{ap, arith}
 use Rattle.base.specs.Logic.{pick, elem, repeated}
-use Rattle.base.specs.declared.Answer.TheVariants.{Taken}
+use Rattle.base.specs.Answers.{Taken}
 use Rattle.rows.specs.Table.{rows_of}
 use Rattle.counters.specs.declared.Counters.{Counters}
 use Rattle.counters.specs.declared.CounterTransition.{CounterTransition}
@@ -16,10 +16,7 @@ use Rattle.counters.specs.Held.{Judged}
 use Rattle.counters.specs.Calls.{effect, batch_call}
 use Rattle.counter_steps.specs.Steps.{pass_of}
 use Rattle.counter_steps.specs.KeptLaws.{first_fits}
-use Rattle.counter_walk.specs.declared.Phase.{Phase}
-use Rattle.counter_walk.specs.declared.Phase.TheVariants.{Look, Again, Free, Store, End}
-use Rattle.counter_walk.specs.declared.Sums.{Sums}
-use Rattle.counter_walk.specs.declared.Walk.{Walk}
+use Rattle.counter_walk.specs.Held.{Phase, Look, Again, Free, Store, End, Sums, Walk}
 use Rattle.counter_walk.specs.SomeLaws.{Seen}
 use Rattle.counter_walk.specs.SumsWalkLaws.{sums_of, no_sums}
 use Rattle.counter_walk.specs.Walk.{finished}

@@ -14,7 +14,7 @@ use Rattle.std.proofs.Math.ListN.{length, drop_of_length-le}
 use Rattle.base.specs.Logic.{pick, any, keep, repeated, max64}
 use Rattle.base.specs.declared.Refusal.{Refusal}
 use Rattle.base.specs.declared.Refusal.TheVariants.{Unallocated, Repeated, FalseOld, OffTotal, TableFull, FewCells}
-use Rattle.base.specs.declared.Answer.TheVariants.{Taken, Refused}
+use Rattle.base.specs.Answers.{Taken, Refused}
 use Rattle.counters.specs.declared.Counters.{Counters}
 use Rattle.counters.specs.declared.CounterTransition.{CounterTransition}
 use Rattle.counters.specs.Counts.{Entry}
@@ -28,10 +28,7 @@ use Rattle.counter_steps.specs.Steps.{pass_of}
 use Rattle.counters.proofs.JudgeLaws as judge
 use Rattle.counters.proofs.JudgeLaws.{judge-unallocated, judge-repeated, judge-false-old, judge-off-total, rows-after, judge-full, few-test, judge-few, judge-taken, total_of}
 use Rattle.counters.proofs.RowLaws.{in_order}
-use Rattle.counter_walk.specs.declared.Phase.{Phase}
-use Rattle.counter_walk.specs.declared.Phase.TheVariants.{Free, End}
-use Rattle.counter_walk.specs.declared.Sums.{Sums}
-use Rattle.counter_walk.specs.declared.Walk.{Walk}
+use Rattle.counter_walk.specs.Held.{Phase, Free, End, Sums, Walk}
 use Rattle.counter_walk.specs.SomeLaws.{Seen, seen_all}
 use Rattle.counter_walk.specs.SumsWalkLaws.{sums_of}
 use Rattle.counter_walk.specs.Walk as walk

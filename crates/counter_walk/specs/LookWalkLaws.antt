@@ -16,8 +16,7 @@ use Rattle.counters.specs.Batch.{changes, kept, named}
 use Rattle.counters.specs.Layout.{count_row}
 use Rattle.counters.specs.Steps.{transition}
 use Rattle.counters.proofs.StepLaws.{once-none}
-use Rattle.counter_walk.specs.declared.Phase.TheVariants.{Look, Again}
-use Rattle.counter_walk.specs.declared.Walk.{Walk}
+use Rattle.counter_walk.specs.Held.{Look, Again, Walk}
 use Rattle.counter_walk.specs.SumsWalkLaws.{or_assoc, or-none, elem-cons, twice-cons, sums-cons, settled-with, tallies-with, sums_none, elem-none}
 use Rattle.counter_walk.specs.Walk as walk
 use Rattle.counter_walk.specs.Walk.{sums_with, moved, on_to, looked, asked_again}

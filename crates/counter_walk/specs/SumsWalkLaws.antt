@@ -16,7 +16,7 @@ use Rattle.counters.specs.Batch.{changes, birth, death, kept, named, unallocated
 use Rattle.counters.proofs.StepLaws.{counted, count-one, elem-named}
 use Rattle.counters.proofs.EachLaws.{each_same, each_all}
 use Rattle.counters.proofs.MaintenanceLaws.{grown-at}
-use Rattle.counter_walk.specs.declared.Sums.{Sums}
+use Rattle.counter_walk.specs.Held.{Sums}
 use Rattle.counter_walk.specs.Walk.{sums_with}
 
 -- the sums with some more transitions

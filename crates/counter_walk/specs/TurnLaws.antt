@@ -20,10 +20,7 @@ use Rattle.counters.specs.Maintenance.{maintained}
 use Rattle.counters.proofs.RowLaws.{in_order}
 use Rattle.counters.specs.Steps.{transition, transitions}
 use Rattle.counter_steps.specs.Steps.{of_kind, apply_one}
-use Rattle.counter_walk.specs.declared.Phase.{Phase}
-use Rattle.counter_walk.specs.declared.Phase.TheVariants.{Look, Again, Free, Store, End}
-use Rattle.counter_walk.specs.declared.Sums.{Sums}
-use Rattle.counter_walk.specs.declared.Walk.{Walk}
+use Rattle.counter_walk.specs.Held.{Phase, Look, Again, Free, Store, End, Sums, Walk}
 use Rattle.counter_walk.specs.Walk.{sums_with, moved, ended, with_rows, accepted, judged, on_to, started, begun, looked, asked_again, applied, applied_table, turned, turned_table, LookReady, AgainReady, ApplyReady, Ready}
 
 neither : {A : Type 0} (b : Bool) (x y : A) → pick (b && false) x y ≡ y

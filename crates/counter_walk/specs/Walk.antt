@@ -4,11 +4,11 @@ use Rattle.std.specs.Prelude.{ℕ, ◌+◌, ◌-◌, ◌*◌, ◌/◌, ◌^◌, 
 use Rattle.base.specs.Logic.{pick, max64}
 use Rattle.base.specs.declared.Refusal.{Refusal}
 use Rattle.base.specs.declared.Refusal.TheVariants.{Unallocated, Repeated, FalseOld, OffTotal, TableFull, Broken, FewCells}
-use Rattle.base.specs.declared.Answer.TheVariants.{Taken, Refused}
+use Rattle.base.specs.Answers.{Taken, Refused}
 use Rattle.rows.specs.Table as rows
 use Rattle.rows.specs.Table.{rows_of}
 use Rattle.counters.specs.declared.Counters.{Counters}
-use Rattle.counters.specs.declared.Applied.{Applied}
+use Rattle.counters.specs.Returned.{Applied}
 use Rattle.counters.specs.declared.CounterTransition.{CounterTransition}
 use Rattle.counter_steps.specs.declared.Kind.TheVariants.{Birth, Death, Rise, Fall}
 use Rattle.counters.specs.Counts.{Entry}
@@ -18,10 +18,7 @@ use Rattle.counters.specs.Batch.{changes, kept, unallocated, false_old}
 use Rattle.counters.specs.Maintenance.{maintained}
 use Rattle.counters.specs.Held.{InOrder}
 use Rattle.counter_steps.specs.Steps.{of_kind, apply_one}
-use Rattle.counter_walk.specs.declared.Phase.{Phase}
-use Rattle.counter_walk.specs.declared.Phase.TheVariants.{Look, Again, Free, Store, End}
-use Rattle.counter_walk.specs.declared.Sums.{Sums}
-use Rattle.counter_walk.specs.declared.Walk.{Walk}
+use Rattle.counter_walk.specs.Held.{Phase, Look, Again, Free, Store, End, Sums, Walk}
 
 -- the sums with one more transition
 unfoldable pub sums_with : ℕ → List Entry → CounterTransition → Sums → Sums

@@ -17,9 +17,7 @@ use Rattle.counters.specs.Steps.{transition}
 use Rattle.counters.proofs.LayoutLaws.{held}
 use Rattle.counters.proofs.JudgeLaws.{judge-broken}
 use Rattle.counters.proofs.RowLaws.{in_order}
-use Rattle.counter_walk.specs.declared.Phase.{Phase}
-use Rattle.counter_walk.specs.declared.Phase.TheVariants.{Look, Again, Free, Store}
-use Rattle.counter_walk.specs.declared.Walk.{Walk}
+use Rattle.counter_walk.specs.Held.{Phase, Look, Again, Free, Store, Walk}
 use Rattle.counter_walk.specs.SomeLaws.{one-has-room}
 use Rattle.counter_walk.specs.SumsWalkLaws.{in-range}
 use Rattle.counter_walk.specs.Walk.{ended, on_to, started, begun, looked, asked_again, turned, turned_table, finished, ApplyReady, Ready}

@@ -7,42 +7,35 @@ ghost use Rattle.counters.specs.Maintenance.{in_range, should_shrink, adjust_shr
 use counters::{CounterMaintenance, ShrinkSettings};
 
 // Whether the base is from 1 to the maximum. The maximum and the good save are any.
+#[tactic(auto, unfolding(counters::specs::Maintenance::in_range))]
 pub fn in_range(settings: ShrinkSettings) -> bool
     ensures { result ≡ in_range settings }
 {
-    if settings.base == 0 {
-        return false;
-    }
-    settings.base <= settings.max
+    settings.base != 0 && settings.base <= settings.max
 }
 
-// Whether to shrink what holds alive items. 3 × removed could be too large a number, so a third of alive is compared.
+// Whether to shrink what holds alive items: at least a third of them were removed, and no fewer than the least number, or none are left. Three
+// times the removed may be past the largest number, and so past alive too.
+#[tactic(auto, unfolding(counters::specs::Maintenance::should_shrink))]
 pub fn should_shrink(alive: u64, removed_since_shrink: u64, min_removed: u64) -> bool
     ensures { result ≡ should_shrink alive removed_since_shrink min_removed }
 {
-    if removed_since_shrink == 0 {
-        return false;
-    }
-    if alive == 0 {
-        return true;
-    }
-    if removed_since_shrink < min_removed {
-        return false;
-    }
-    (alive - 1) / 3 < removed_since_shrink
+    removed_since_shrink != 0
+        && (alive == 0
+            || min_removed <= removed_since_shrink
+                && alive <= removed_since_shrink.saturating_mul(3))
 }
 
-// The alive threshold after a shrink that saved some bytes. Twice a threshold could be too large a number, so half the maximum is compared.
+// The alive threshold after a shrink that saved some bytes: the base after a good save, else twice itself, to the maximum at most.
+#[tactic(auto, unfolding(counters::specs::Maintenance::adjust_shrink_threshold))]
 pub fn threshold_after(settings: ShrinkSettings, threshold: u64, saved: u64) -> u64
     ensures { result ≡ adjust_shrink_threshold settings saved threshold }
 {
     if settings.good_save <= saved {
-        return settings.base;
+        settings.base
+    } else {
+        threshold.saturating_mul(2).min(settings.max)
     }
-    if settings.max / 2 < threshold {
-        return settings.max;
-    }
-    threshold * 2
 }
 
 // After an alive shrink that saved some bytes: only the threshold moves.

@@ -9,8 +9,8 @@ overflow_add-left c = omega (arith, c.requires.room)
 pub loop-i-init : goal.loop-i-init
 loop-i-init c = merge-begin c.args.n c.args.at c.args.s c.args.t.now c.requires
 
-pub merge_one-next-requires : goal.merge_one-next-requires
-merge_one-next-requires c =
+pub merge_one-i-requires : goal.merge_one-i-requires
+merge_one-i-requires c =
     let l = c.loop-i in (
       omega arith,
       omega (arith, c.requires.room, l.invariant.fronts, l.invariant.backs),
@@ -20,7 +20,7 @@ merge_one-next-requires c =
 pub loop-i-preserved : goal.loop-i-preserved
 loop-i-preserved c =
     let l = c.loop-i in
-    let f = c.merge_one-next in
+    let f = c.merge_one-i in
     merge_step c.args.n c.args.at c.args.s c.args.t.now c.requires l.i l.left l.t l.invariant (omega arith) f.result _ f.ensures.0 f.ensures.1
 
 pub overflow_mul-s : goal.overflow_mul-s

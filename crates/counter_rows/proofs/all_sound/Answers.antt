@@ -1,32 +1,18 @@
-use Rattle.counters.specs.Layout.{sound}
-use Rattle.counters.proofs.RowLaws.{all-next, all-not, all_end, sound-row, far-row, low-row}
-use mathlib.Core.Path.{sym, ◌∙◌}
-use Prim.Native.Nat.{◌+◌, ◌*◌}
-use native.Mathlib.Omega.{arith}
-use native.Mathlib.Numerals.{add-one}
-use lib.ListN.{get_or}
+use Rattle.std.specs.Prelude.{◌*◌, ◌/◌, length}
+use Rattle.std.proofs.Common.{rules, arith, ap, ◌∙◌, length-take-le}
+use borrow.Author.Tests.{tests}
+use Rattle.std.proofs.lemmas.Iterator.Search.{all_from_yields_List}
+use Rattle.base.specs.Logic.{all}
+use Rattle.rows.specs.Table.{rows_of}
+use Rattle.counters.specs.Layout.{count_row, sound}
+use Rattle.counters.proofs.CodingLaws.{count-lawful}
+use Rattle.counter_rows.proofs.ChunkLaws.{chunks-rows, front-rows, all-same}
 use Rattle.counter_rows.proofs.all_sound.Goals as goal
-
-pub returns-then-next-t : goal.returns-then-next-t
-returns-then-next-t c =
-    let l = c.loop-i in
-    let a = c.args in
-    sym (l.invariant.1 ∙ all-not (sound a.next) a.n a.t.now l.i (omega arith) (far-row a.next (get_or a.t.now (l.i * 2) 0) (get_or a.t.now (l.i * 2 + 1) 0) c.if-next-t.true))
-
-pub returns-then-t-i-lt2 : goal.returns-then-t-i-lt2
-returns-then-t-i-lt2 c =
-    let l = c.loop-i in
-    let a = c.args in
-    sym (l.invariant.1 ∙ all-not (sound a.next) a.n a.t.now l.i (omega arith) (low-row a.next (get_or a.t.now (l.i * 2) 0) (get_or a.t.now (l.i * 2 + 1) 0) c.if-next-t.false c.if-t-i-lt2.true))
-
-pub loop-i-preserved : goal.loop-i-preserved
-loop-i-preserved c =
-    let l = c.loop-i in
-    let a = c.args in
-    (omega arith, rw add-one (l.invariant.1 ∙ all-next (sound a.next) a.n a.t.now l.i (omega arith) (sound-row a.next (get_or a.t.now (l.i * 2) 0) (get_or a.t.now (l.i * 2 + 1) 0) c.if-next-t.false c.if-t-i-lt2.false)))
 
 pub returns : goal.returns
 returns c =
-    let l = c.loop-i in
     let a = c.args in
-    sym (l.invariant.1 ∙ all_end (sound a.next) a.n a.t.now l.i (omega arith) (omega arith))
+    all_from_yields_List (sound a.next) _ _ c.all.result c.all.ensures.ran (chunks-rows count-lawful (omega arith) c.chunks_exact.ensures.size) (λ x b q k. search (rules, tests))
+    ∙ all-same (sound a.next) _
+    ∙ ap (λ w. all (sound a.next) (rows_of count_row (length w / 2) w)) c.chunks_exact.ensures.rest
+    ∙ ap (all (sound a.next)) (front-rows count-lawful (omega arith) a.n a.t.now c.requires _ (omega (arith, length-take-le (a.n * 2) a.t.now)))

@@ -1,14 +1,10 @@
-use Rattle.counters.proofs.MaintenanceLaws.{low_count, large-count, no-set, bit-set}
+-- The set that rows spell is the set of counts.
+use Rattle.counters.specs.Counts.{small_code}
+use Rattle.counters.specs.Counts as counts
+use Rattle.roaring_rows.specs.RowMembers.{code_of}
+use Rattle.roaring_rows.specs.RowMembers as rows
 use Rattle.counter_sets.proofs.in_set.Goals as goal
 
-pub returns-then-n-lt2 : goal.returns-then-n-lt2
-returns-then-n-lt2 c = let a = c.args in low_count a.k a.n c.if-n-lt2.true
-
-pub returns-then-n-gt256 : goal.returns-then-n-gt256
-returns-then-n-gt256 c = let a = c.args in large-count a.k a.n c.if-n-gt256.true
-
-pub returns-then-k-ge8 : goal.returns-then-k-ge8
-returns-then-k-ge8 c = let a = c.args in no-set a.k a.n c.if-k-ge8.true
-
 pub returns : goal.returns
-returns c = let a = c.args in bit-set a.k a.n c.if-n-lt2.false c.if-n-gt256.false
+unfolding counts.in_set small_code rows.in_set code_of
+returns c = c.in_set.ensures

@@ -4,9 +4,6 @@ use native.Mathlib.Omega.{arith}
 use Rattle.counter_sets.proofs.members.Goals as goal
 use Rattle.counter_sets.proofs.members.Goals.{else-in_set, then-in_set}
 
-pub loop-i-init : goal.loop-i-init
-loop-i-init c = (omega arith, (omega arith, omega arith))
-
 pub loop-i-preserved : goal.loop-i-preserved
 loop-i-preserved c =
     let l = c.loop-i in

@@ -9,7 +9,7 @@ use lib.ListN.{length-set}
 use Rattle.counter_shrink.proofs.sets_shrink.Goals as goal
 
 pub loop-k-init : goal.loop-k-init
-loop-k-init c = (omega arith, (refl, refl))
+loop-k-init c = (refl, refl)
 
 pub loop-k-preserved : goal.loop-k-preserved
 loop-k-preserved c =
@@ -17,7 +17,7 @@ loop-k-preserved c =
     let a = c.args in
     let es = rows_of count_row a.n a.t.now in
     let g = length-sets es a.removed in
-    (omega arith, (simp length-set l.invariant.1.0, filled_next false l.small (sets_shrink es a.removed) l.k l.invariant.1.1 c.should_shrink_set.result (omega arith) (omega arith) (c.should_shrink_set.ensures ∙ sym (set_at es a.removed l.k (omega arith)))))
+    (simp length-set l.invariant.0, filled_next false l.small (sets_shrink es a.removed) l.k l.invariant.1 c.should_shrink_set.result (omega arith) (omega arith) (c.should_shrink_set.ensures ∙ sym (set_at es a.removed l.k (omega arith))))
 
 pub returns : goal.returns
 returns c =
@@ -25,4 +25,4 @@ returns c =
     let a = c.args in
     let es = rows_of count_row a.n a.t.now in
     let g = length-sets es a.removed in
-    filled-end false l.small (sets_shrink es a.removed) l.k l.invariant.1.1 (omega arith) (omega arith)
+    filled-end false l.small (sets_shrink es a.removed) l.k l.invariant.1 (omega arith) (omega arith)

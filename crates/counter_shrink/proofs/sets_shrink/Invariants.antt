@@ -2,12 +2,8 @@ use Rattle.rows.specs.Table.{rows_of}
 use Rattle.counters.specs.Layout.{count_row}
 use Rattle.counters.specs.Maintenance.{sets_shrink}
 use mathlib.Core.Path.{◌≡◌}
-use Prim.Native.Nat.{◌-◌, ◌≤◌}
 use lib.ListN.{length, take}
 use Rattle.counter_shrink.proofs.sets_shrink.Given as goal
 
 abbrev pub invariant-loop-k : goal.invariant-loop-k
-invariant-loop-k l = (l.k ≤ 8) × ((length l.small ≡ 8) × (take l.k l.small ≡ take l.k (sets_shrink (rows_of count_row l.n l.t) l.removed)))
-
-abbrev pub decreases-loop-k : goal.decreases-loop-k
-decreases-loop-k l = 8 - l.k
+invariant-loop-k l = (length l.small ≡ 8) × (take l.k l.small ≡ take l.k (sets_shrink (rows_of count_row l.n l.t) l.removed))

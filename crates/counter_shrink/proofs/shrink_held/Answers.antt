@@ -9,4 +9,4 @@ sets_shrink-small-requires c = (held c.args.c c.args.t.now c.requires).laid.fits
 pub returns : goal.returns
 unfolding with_maintenance
 returns c =
-    shrink-held c.args.c c.args.t.now c.args.saved c.should_shrink-alive.result c.sets_shrink-small.result c.maintenance_after-counters.result c.requires c.should_shrink-alive.ensures c.sets_shrink-small.ensures c.maintenance_after-counters.ensures
+    shrink-held c.args.c c.args.t.now c.args.saved c.should_shrink-alive.result c.sets_shrink-small.result c.maintenance_after-maintenance.result c.requires c.should_shrink-alive.ensures c.sets_shrink-small.ensures c.maintenance_after-maintenance.ensures

@@ -1,15 +1,14 @@
 use mathlib.Core.Path.{◌∙◌}
-use Rattle.counters.specs.Steps.{transition}
 use Rattle.counters.proofs.StepLaws.{unchanged, changed}
-use Rattle.counter_steps.specs.Steps.{leaves_row}
+use Rattle.counter_steps.specs.Steps.{stores, leaves_row}
 use Rattle.counter_steps.specs.PassLaws.{leaves-many, leaves-few}
 use Rattle.counter_steps.proofs.is_due.Goals as goal
 
-pub returns-then-old-new : goal.returns-then-old-new
-returns-then-old-new c = let a = c.args in unchanged a.idx a.old a.new (leaves_row a.many (transition a.idx a.old a.new)) c.if-old-new.true
+pub returns-then-x : goal.returns-then-x
+returns-then-x c = let a = c.args in unchanged a.x.idx.0 a.x.old_raw a.x.new_raw (leaves_row (stores a.pass) a.x) c.if-x.true
 
-pub returns-then-many : goal.returns-then-many
-returns-then-many c = let a = c.args in (rw c.if-many.true (leaves-many a.idx a.old a.new)) ∙ changed a.idx a.old a.new (leaves_row a.many (transition a.idx a.old a.new)) c.if-old-new.false
+pub returns-in-Free : goal.returns-in-Free
+returns-in-Free c = let a = c.args in (rw c.in-Free.is (leaves-few a.x.idx.0 a.x.old_raw a.x.new_raw)) ∙ changed a.x.idx.0 a.x.old_raw a.x.new_raw (leaves_row (stores a.pass) a.x) c.if-x.false
 
-pub returns : goal.returns
-returns c = let a = c.args in (rw c.if-many.false (leaves-few a.idx a.old a.new)) ∙ changed a.idx a.old a.new (leaves_row a.many (transition a.idx a.old a.new)) c.if-old-new.false
+pub returns-in-Store : goal.returns-in-Store
+returns-in-Store c = let a = c.args in (rw c.in-Store.is (leaves-many a.x.idx.0 a.x.old_raw a.x.new_raw)) ∙ changed a.x.idx.0 a.x.old_raw a.x.new_raw (leaves_row (stores a.pass) a.x) c.if-x.false

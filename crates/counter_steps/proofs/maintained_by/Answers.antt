@@ -5,4 +5,4 @@ use Rattle.counter_steps.proofs.maintained_by.Goals as goal
 
 pub returns : goal.returns
 unfolding maintained
-returns c = rw (c.grown.ensures, c.tally.ensures, c.grown_sets-small.ensures)
+returns g c = rw (c.grown.ensures, c.tally.ensures, c.grown_sets.ensures)

@@ -1,5 +1,5 @@
 use mathlib.Core.Path.{◌≡◌}
-use Prim.Native.Nat.{◌+◌, ◌-◌, ◌/◌, ◌≤◌}
+use Prim.Native.Nat.{◌+◌, ◌≤◌}
 use lib.ListN.{length, drop}
 use Rattle.base.specs.Logic.{keep}
 use Rattle.counters.specs.Batch.{kept}
@@ -8,7 +8,4 @@ use Rattle.counter_steps.specs.Steps.{of_kind}
 use Rattle.counter_steps.proofs.tally.Given as goal
 
 abbrev pub invariant-loop-i : goal.invariant-loop-i
-invariant-loop-i l = (l.i ≤ length l.b / 3) × (l.n ≤ l.i) × (l.n + length (keep (of_kind l.kind) (kept (drop l.i (transitions l.b)))) ≡ length (keep (of_kind l.kind) (kept (transitions l.b))))
-
-abbrev pub decreases-loop-i : goal.decreases-loop-i
-decreases-loop-i l = length l.b / 3 - l.i
+invariant-loop-i g l = (l.n ≤ l.i) × (l.n + length (keep (of_kind l.kind) (kept (drop l.i (transitions (g.B.Transitions.words l.b))))) ≡ length (keep (of_kind l.kind) (kept (transitions (g.B.Transitions.words l.b)))))

@@ -1,9 +1,0 @@
--- `counter_records::apply_batch`: the walk is in a phase, and each record brings it nearer to its end.
-use Rattle.counter_walk.specs.InvWalkLaws.{Inv, left}
-use Rattle.counter_records.proofs.apply_batch.Given as goal
-
-abbrev pub invariant-loop-s : goal.invariant-loop-s
-invariant-loop-s l = Inv l.fn.c l.fn.t l.b l.s l.t
-
-abbrev pub decreases-loop-s : goal.decreases-loop-s
-decreases-loop-s l = left l.b l.s

@@ -1,9 +1,0 @@
-use lib.Dec.{eqb}
-use Rattle.counters.proofs.StepLaws.{unchanged, changed}
-use Rattle.transition_checks.proofs.is_named.Goals as goal
-
-pub returns-then-old-new : goal.returns-then-old-new
-returns-then-old-new c = let a = c.args in unchanged a.idx a.old a.new (eqb a.seek a.idx) c.if-old-new.true
-
-pub returns : goal.returns
-returns c = let a = c.args in changed a.idx a.old a.new (eqb a.seek a.idx) c.if-old-new.false
