@@ -1,7 +1,7 @@
 // What a delta is refused for beyond its own form: a hash that is there already or comes twice, and want of room.
 #![tactic(auto)]
 
-ghost use Rattle.std.specs.Prelude.{◌≡◌, true, ◌||◌, map, ◌+◌, ◌/◌, ◌≤◌, min, ltb, length, drop};
+ghost use Rattle.std.specs.Prelude.{◌≡◌, true, ◌||◌, map, ℕ, Bool, ◌+◌, ◌/◌, ◌≤◌, min, ltb, length, drop};
 ghost use Rattle.base.specs.Logic.{any, elem, repeated};
 ghost use Rattle.rows.specs.Keys.{keys, first_four};
 ghost use Rattle.rows.specs.Wide.{key_of};
@@ -9,9 +9,9 @@ ghost use Rattle.cell_nursery.specs.Calls.{length_width};
 ghost use Rattle.cell_nursery.specs.Held.{EntriesHeld};
 ghost use Rattle.delta_items.specs.Walk.{inserts_in, inserts_len, inserts_fit, inserts_from};
 ghost use Rattle.delta_items.specs.WalkLaws.{Left};
+ghost use Rattle.delta_checks.specs.ChecksLaws.{Tells};
 
 use cell_nursery::Nursery;
-use nursery_rows::waiting::same;
 use rows::Wide;
 
 // Whether the hash is in the nursery: a search.
@@ -19,7 +19,30 @@ fn is_stored(r: Nursery, es: &[u64], hash: Wide) -> bool
     requires { EntriesHeld r es.now }
     ensures { result ≡ elem (key_of hash) (keys first_four 8 r.entries es.now) }
 {
-    nursery_lookup::find_hash(r, es, hash) < r.entries
+    nursery_lookup::find_hash(r, es, hash).is_some()
+}
+
+// Whether an insert from number `from` on, which begins at `start`, has a hash of which `told` says yes.
+fn any_from<F: Fn(Wide) -> bool>(
+    wide: bool,
+    inserts: u64,
+    items: &[u8],
+    from: u64,
+    start: usize,
+    told: F,
+) -> bool
+    requires left { Left (length_width wide) inserts from start (inserts_len (length_width wide) inserts items.now) items.now }
+    requires is_always_callable { F.IsAlwaysCallable told }
+    ensures { (g : ℕ → Bool) → Tells (F.post told) g → result ≡ any (λ e. g e.hash) (inserts_from (length_width wide) inserts from start items.now) }
+{
+    let mut at = start;
+    for _ in from..inserts {
+        if told(hash_words::wide_of(items, at)) {
+            return true;
+        }
+        at = delta_items::insert_end(items, at, wide);
+    }
+    false
 }
 
 // Whether the hash of an insert is in the nursery.
@@ -28,33 +51,7 @@ pub fn any_stored(r: Nursery, es: &[u64], wide: bool, inserts: u64, items: &[u8]
     requires value { inserts_fit (length_width wide) inserts items.now ≡ true }
     ensures { result ≡ any (λ e. elem e.hash (keys first_four 8 r.entries es.now)) (inserts_in (length_width wide) inserts items.now) }
 {
-    let mut at = 0;
-    let mut i: u64 = 0;
-    while i < inserts {
-        if is_stored(r, es, hash_words::wide_of(items, at)) {
-            return true;
-        }
-        at = delta_items::insert_end(items, at, wide);
-        i += 1;
-    }
-    false
-}
-
-// Whether an insert from number `from` on, which begins at `start`, has the hash.
-fn named_from(wide: bool, inserts: u64, items: &[u8], from: u64, start: usize, hash: Wide) -> bool
-    requires { Left (length_width wide) inserts from start (inserts_len (length_width wide) inserts items.now) items.now }
-    ensures { result ≡ elem (key_of hash) (map (λ e. e.hash) (inserts_from (length_width wide) inserts from start items.now)) }
-{
-    let mut at = start;
-    let mut i = from;
-    while i < inserts {
-        if same(hash, hash_words::wide_of(items, at)) {
-            return true;
-        }
-        at = delta_items::insert_end(items, at, wide);
-        i += 1;
-    }
-    false
+    any_from(wide, inserts, items, 0, 0, |hash| is_stored(r, es, hash))
 }
 
 // Whether two inserts have one hash: each is held against those behind it.
@@ -63,21 +60,13 @@ pub fn any_repeated(wide: bool, inserts: u64, items: &[u8]) -> bool
     ensures { result ≡ repeated (map (λ e. e.hash) (inserts_in (length_width wide) inserts items.now)) }
 {
     let mut at = 0;
-    let mut i: u64 = 0;
-    while i < inserts {
+    for i in 0..inserts {
         let next = delta_items::insert_end(items, at, wide);
-        if named_from(
-            wide,
-            inserts,
-            items,
-            i + 1,
-            next,
-            hash_words::wide_of(items, at),
-        ) {
+        let hash = hash_words::wide_of(items, at);
+        if any_from(wide, inserts, items, i + 1, next, |other| hash == other) {
             return true;
         }
         at = next;
-        i += 1;
     }
     false
 }

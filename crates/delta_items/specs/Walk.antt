@@ -1,13 +1,11 @@
 -- The items of a lent delta, as they are walked by places: total, so that an insert is read from any bytes, and a test says whether it stands there whole.
 -- w is how many bytes a cell's length has.
 -- Assumes nothing.
-use Rattle.std.specs.Prelude.{ℕ, zero, suc, ◌+◌, ◌-◌, ◌*◌, Bool, true, ◌&&◌, List, [], ◌∷◌, length, take, drop, leb, ltb}
+use Rattle.std.specs.Prelude.{ℕ, zero, suc, ◌+◌, ◌-◌, ◌*◌, Bool, true, ◌&&◌, List, [], ◌∷◌, length, take, drop, leb, ltb, Option, Some, None}
 use Rattle.base.specs.Logic.{pick, any}
 use Rattle.base.specs.Bytes.{unle, unbe}
 use Rattle.cell_nursery.specs.Entries.{Entry}
 use Rattle.cell_nursery.specs.Items.{Delta}
-use Rattle.delta_items.specs.declared.End.{End}
-use Rattle.delta_items.specs.declared.End.TheVariants.{At, Past}
 
 -- ---- the insert that bytes start with
 
@@ -47,9 +45,9 @@ unfoldable pub inserts_fit : ℕ → ℕ → List ℕ → Bool
 inserts_fit w zero bs = true
 inserts_fit w (suc n) bs = leb (insert_len w bs) (length bs) && inserts_fit w n (drop (insert_len w bs) bs)
 
--- where they end
-unfoldable pub inserts_end : ℕ → ℕ → List ℕ → End
-inserts_end w n bs = pick (inserts_fit w n bs) (At (inserts_len w n bs)) Past
+-- where they end, where they stand whole
+unfoldable pub inserts_end : ℕ → ℕ → List ℕ → Option ℕ
+inserts_end w n bs = pick (inserts_fit w n bs) (Some (inserts_len w n bs)) None
 
 -- one of them has a cell over 65,535 bytes
 abbrev pub long_cell : List Entry → Bool
@@ -71,9 +69,9 @@ items_fit w inserts removes bs = inserts_fit w inserts bs && leb (32 * removes) 
 unfoldable pub delta_in : ℕ → ℕ → ℕ → List ℕ → Delta
 delta_in w inserts removes bs = record { inserts = inserts_in w inserts bs; removes = hashes_in removes (drop (inserts_len w inserts bs) bs) }
 
--- where its removes begin
-unfoldable pub removes_at : ℕ → ℕ → ℕ → List ℕ → End
-removes_at w inserts removes bs = pick (items_fit w inserts removes bs) (At (inserts_len w inserts bs)) Past
+-- where its removes begin, where its items stand whole
+unfoldable pub removes_at : ℕ → ℕ → ℕ → List ℕ → Option ℕ
+removes_at w inserts removes bs = pick (items_fit w inserts removes bs) (Some (inserts_len w inserts bs)) None
 
 -- ---- the same from a place on
 
@@ -81,9 +79,9 @@ removes_at w inserts removes bs = pick (items_fit w inserts removes bs) (At (ins
 abbrev pub inserts_from : ℕ → ℕ → ℕ → ℕ → List ℕ → List Entry
 inserts_from w n i at items = inserts_in w (n - i) (drop at items)
 
--- where they end
-unfoldable pub end_from : ℕ → ℕ → ℕ → ℕ → List ℕ → End
-end_from w n i at items = pick (inserts_fit w (n - i) (drop at items)) (At (at + inserts_len w (n - i) (drop at items))) Past
+-- where they end, where they stand whole
+unfoldable pub end_from : ℕ → ℕ → ℕ → ℕ → List ℕ → Option ℕ
+end_from w n i at items = pick (inserts_fit w (n - i) (drop at items)) (Some (at + inserts_len w (n - i) (drop at items))) None
 
 -- removes j to m, where the removes begin at a place
 abbrev pub removes_from : ℕ → ℕ → ℕ → List ℕ → List ℕ

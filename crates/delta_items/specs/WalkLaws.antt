@@ -2,7 +2,7 @@
 -- Assumes nothing.
 use Rattle.std.proofs.Math.Path.{◌≡◌, refl}
 use Rattle.std.proofs.Common.{sym, ap, ◌∙◌, mul-suc, suc-mul}
-use Rattle.std.specs.Prelude.{Bool, ◌&&◌, ◌||◌, List, [], ◌∷◌, drop, ltb}
+use Rattle.std.specs.Prelude.{Bool, ◌&&◌, ◌||◌, List, [], ◌∷◌, drop, ltb, Some, None}
 use Rattle.std.proofs.Math.Bool.{true, false}
 use Rattle.std.proofs.Math.Option.{none, some}
 use Prim.Native.Nat.{ℕ, zero, suc, ◌+◌, ◌-◌, ◌*◌, ◌≤◌, ◌<◌}
@@ -22,7 +22,6 @@ use Rattle.cell_nursery.specs.Entries.{cell_bytes}
 use Rattle.cell_nursery.specs.Items.{read_hash, read_insert, delta_of}
 use Rattle.cell_nursery.specs.Delta.{too_long}
 use Rattle.delta_items.specs.Walk.{hash_in, cell_len, cell_in, insert_in, insert_len, inserts_in, inserts_len, inserts_fit, inserts_end, long_cell, hashes_in, items_fit, delta_in, removes_at, inserts_from, end_from, removes_from}
-use Rattle.delta_items.specs.declared.End.TheVariants.{At, Past}
 
 -- ---- an item that stands whole, and one that doesn't
 
@@ -203,61 +202,61 @@ module _ (w n m : ℕ) (bs : List ℕ) where
           rw (inserts-whole w n bs f, hashes-short m (drop (inserts_len w n bs) bs) (omega (arith, leb-false (32 * m) (length bs - inserts_len w n bs) s)))
 
   -- what `removes_at` answers, by where the inserts end
-  pub removes-after : (e : ℕ) → inserts_end w n bs ≡ At e → 32 * m ≤ length bs - e → removes_at w n m bs ≡ At e
+  pub removes-after : (e : ℕ) → inserts_end w n bs ≡ Some e → 32 * m ≤ length bs - e → removes_at w n m bs ≡ Some e
   unfolding inserts_end removes_at items_fit
   removes-after e q h = go (inserts_fit w n bs) q
     where
-      go : (b : Bool) → pick b (At (inserts_len w n bs)) Past ≡ At e
-          → pick (b && leb (32 * m) (length bs - inserts_len w n bs)) (At (inserts_len w n bs)) Past ≡ At e
+      go : (b : Bool) → pick b (Some (inserts_len w n bs)) None ≡ Some e
+          → pick (b && leb (32 * m) (length bs - inserts_len w n bs)) (Some (inserts_len w n bs)) None ≡ Some e
       go true r =
           let k : inserts_len w n bs ≡ e = cc in
           rw (k, le-leb (32 * m) (length bs - e) h)
       go false r = r
 
-  pub removes-over : (e : ℕ) → inserts_end w n bs ≡ At e → length bs - e < 32 * m → removes_at w n m bs ≡ Past
+  pub removes-over : (e : ℕ) → inserts_end w n bs ≡ Some e → length bs - e < 32 * m → removes_at w n m bs ≡ None
   unfolding inserts_end removes_at items_fit
   removes-over e q h = go (inserts_fit w n bs) q
     where
-      go : (b : Bool) → pick b (At (inserts_len w n bs)) Past ≡ At e
-          → pick (b && leb (32 * m) (length bs - inserts_len w n bs)) (At (inserts_len w n bs)) Past ≡ Past
+      go : (b : Bool) → pick b (Some (inserts_len w n bs)) None ≡ Some e
+          → pick (b && leb (32 * m) (length bs - inserts_len w n bs)) (Some (inserts_len w n bs)) None ≡ None
       go true r =
           let k : inserts_len w n bs ≡ e = cc in
           rw (k, lt-leb (32 * m) (length bs - e) h)
       go false r = let z : ◌≡◌ {A = ℕ} 0 1 = cc in absurd (omega arith)
 
-  pub removes-none : inserts_end w n bs ≡ Past → removes_at w n m bs ≡ Past
+  pub removes-none : inserts_end w n bs ≡ None → removes_at w n m bs ≡ None
   unfolding inserts_end removes_at items_fit
   removes-none q = go (inserts_fit w n bs) q
     where
-      go : (b : Bool) → pick b (At (inserts_len w n bs)) Past ≡ Past
-          → pick (b && leb (32 * m) (length bs - inserts_len w n bs)) (At (inserts_len w n bs)) Past ≡ Past
+      go : (b : Bool) → pick b (Some (inserts_len w n bs)) None ≡ None
+          → pick (b && leb (32 * m) (length bs - inserts_len w n bs)) (Some (inserts_len w n bs)) None ≡ None
       go true r = let z : ◌≡◌ {A = ℕ} 0 1 = cc in absurd (omega arith)
       go false r = refl
 
-  pub end-inside : (e : ℕ) → inserts_end w n bs ≡ At e → e ≤ length bs
+  pub end-inside : (e : ℕ) → inserts_end w n bs ≡ Some e → e ≤ length bs
   unfolding inserts_end
   end-inside e q = go (inserts_fit w n bs) refl q
     where
-      go : (b : Bool) → inserts_fit w n bs ≡ b → pick b (At (inserts_len w n bs)) Past ≡ At e → e ≤ length bs
+      go : (b : Bool) → inserts_fit w n bs ≡ b → pick b (Some (inserts_len w n bs)) None ≡ Some e → e ≤ length bs
       go true f r =
           let k : inserts_len w n bs ≡ e = cc in
           omega (arith, fit-inside w n bs f)
       go false f r = let z : ◌≡◌ {A = ℕ} 0 1 = cc in absurd (omega arith)
 
   -- what the answer says of the delta
-  pub removes-at : (e : ℕ) → removes_at w n m bs ≡ At e → (items_fit w n m bs ≡ true) × (e ≡ inserts_len w n bs)
+  pub removes-at : (e : ℕ) → removes_at w n m bs ≡ Some e → (items_fit w n m bs ≡ true) × (e ≡ inserts_len w n bs)
   unfolding removes_at
   removes-at e q = go (items_fit w n m bs) q
     where
-      go : (b : Bool) → pick b (At (inserts_len w n bs)) Past ≡ At e → (b ≡ true) × (e ≡ inserts_len w n bs)
+      go : (b : Bool) → pick b (Some (inserts_len w n bs)) None ≡ Some e → (b ≡ true) × (e ≡ inserts_len w n bs)
       go true r = (refl, cc)
       go false r = let z : ◌≡◌ {A = ℕ} 0 1 = cc in absurd (omega arith)
 
-  pub removes-past : removes_at w n m bs ≡ Past → items_fit w n m bs ≡ false
+  pub removes-past : removes_at w n m bs ≡ None → items_fit w n m bs ≡ false
   unfolding removes_at
   removes-past q = go (items_fit w n m bs) q
     where
-      go : (b : Bool) → pick b (At (inserts_len w n bs)) Past ≡ Past → b ≡ false
+      go : (b : Bool) → pick b (Some (inserts_len w n bs)) None ≡ None → b ≡ false
       go true r = let z : ◌≡◌ {A = ℕ} 0 1 = cc in absurd (omega arith)
       go false r = refl
 
@@ -336,6 +335,10 @@ module _ (w n i at e : ℕ) (items : List ℕ) where
     unfolding any
     long-turn l = rw (inserts-turn, left-cell l)
 
+-- the insert at hand lies inside the items
+pub left-inside : {w n i at e : ℕ} {items : List ℕ} → Left w n i at e items → i < n → at + insert_len w (drop at items) ≤ length items
+left-inside l more = omega (arith, left-head _ _ _ _ _ _ more l, l.inside)
+
 -- the same loop before it is known that the inserts stand whole: where they end
 
 pub end-start : (w n : ℕ) (items : List ℕ) → end_from w n 0 0 items ≡ inserts_end w n items
@@ -346,7 +349,7 @@ end-start w n items =
     rw (z, y)
 
 module _ (w n i at : ℕ) (items : List ℕ) where
-  pub end-done : n ≤ i → end_from w n i at items ≡ At at
+  pub end-done : n ≤ i → end_from w n i at items ≡ Some at
   unfolding end_from inserts_fit inserts_len
   end-done h =
       let z : n - i ≡ 0 = omega arith in
@@ -358,7 +361,7 @@ module _ (w n i at : ℕ) (items : List ℕ) where
     one-more = omega arith
 
     -- an insert that runs past the items
-    pub end-past : leb (insert_len w (drop at items)) (length (drop at items)) ≡ false → end_from w n i at items ≡ Past
+    pub end-past : leb (insert_len w (drop at items)) (length (drop at items)) ≡ false → end_from w n i at items ≡ None
     unfolding end_from inserts_fit
     end-past s = rw (one-more, s)
 

@@ -21,13 +21,6 @@ ghost use Rattle.delta_items.specs.Walk.{
 
 use byte_numbers::{read_le16, read_le32, read_le64};
 
-// Where a part of the items ends, or that it runs past them.
-#[derive(Clone, Copy)]
-pub enum End {
-    At(usize),
-    Past,
-}
-
 // How many bytes an insert has before its cell.
 pub fn head_len(wide: bool) -> usize
     ensures { result ≡ 44 + length_width wide }
@@ -83,34 +76,30 @@ fn insert_fits(items: &[u8], at: usize, wide: bool) -> bool
     cell_len(items, at, wide) <= left - head
 }
 
-// Where so many inserts end.
-fn inserts_end(items: &[u8], wide: bool, inserts: u64) -> End
+// Where so many inserts end, or none where they run past the items.
+fn inserts_end(items: &[u8], wide: bool, inserts: u64) -> Option<usize>
     ensures { result ≡ inserts_end (length_width wide) inserts items.now }
 {
     let mut at = 0;
-    let mut i: u64 = 0;
-    while i < inserts {
+    for _ in 0..inserts {
         if !insert_fits(items, at, wide) {
-            return End::Past;
+            return None;
         }
         at = insert_end(items, at, wide);
-        i += 1;
     }
-    End::At(at)
+    Some(at)
 }
 
-// Where the removes of a delta begin, or that its items run past their bytes. Any number may be stated.
-pub fn removes_at(items: &[u8], wide: bool, inserts: u64, removes: u64) -> End
+// Where the removes of a delta begin, or none where its items run past their bytes. Any number may be stated.
+pub fn removes_at(items: &[u8], wide: bool, inserts: u64, removes: u64) -> Option<usize>
     ensures { result ≡ removes_at (length_width wide) inserts removes items.now }
 {
-    let End::At(at) = inserts_end(items, wide, inserts) else {
-        return End::Past;
-    };
+    let at = inserts_end(items, wide, inserts)?;
     let room = ((items.len() - at) / 32) as u64;
     if room < removes {
-        return End::Past;
+        return None;
     }
-    End::At(at)
+    Some(at)
 }
 
 // The bytes of all cells of inserts that end at `end`: what their heads leave. (`WalkLaws` has that this is their sum.)
@@ -127,13 +116,11 @@ fn long_cell(items: &[u8], wide: bool, inserts: u64) -> bool
     ensures { result ≡ long_cell (inserts_in (length_width wide) inserts items.now) }
 {
     let mut at = 0;
-    let mut i: u64 = 0;
-    while i < inserts {
+    for _ in 0..inserts {
         if 65535 < cell_len(items, at, wide) {
             return true;
         }
         at = insert_end(items, at, wide);
-        i += 1;
     }
     false
 }

@@ -31,7 +31,7 @@ pub fn write_tail(es: &[u64], k: usize, cs: &[u8], out: &mut [u8], at: usize)
     let from = es[k * 8 + 6] as usize;
     let to = from + len as usize;
     byte_numbers::write_le16(out, at, len as u16);
-    byte_slices::copy_at(out, at + 2, &cs[from..to]);
+    slices::copy_at(out, at + 2, &cs[from..to]);
 }
 
 // Row k goes to index `at` as an insert of a record.
@@ -49,12 +49,9 @@ pub fn write_listing(r: Nursery, es: &[u64], cs: &[u8], out: &mut [u8])
     requires { EntriesHeld r es.now × CellsHeld r cs.now × (r.entries * 46 + r.cell_bytes ≤ length out.old) }
     ensures { out.new ≡ overlay (listing_bytes (entries_of r.entries es.now cs.now)) out.old }
 {
-    let n = r.entries;
-    let mut i = 0;
     let mut at = 0;
-    while i < n {
+    for i in 0..r.entries {
         write_insert(es, i, cs, out, at);
         at += 46 + es[i * 8 + 7] as usize;
-        i += 1;
     }
 }

@@ -8,6 +8,7 @@ ghost use Rattle.cell_nursery.specs.Layout as layout;
 ghost use Rattle.cell_nursery.specs.Rows.{fields_hold, rounds_hold};
 
 use cell_nursery::{Nursery, delay_in_range};
+use rows::Wide;
 
 // Whether the first n rows of the entries have their fields in bounds and their cells end to end in so many bytes. A cell
 // that would end past the last byte is refused before its length is added, so that no sum overflows.
@@ -15,24 +16,17 @@ fn fields_hold(t: &[u64], n: usize, bytes: u64) -> bool
     requires { n * 8 ≤ length t.now }
     ensures { result ≡ fields_hold 0 bytes (rows_of entry_row n t.now) }
 {
-    let mut i = 0;
     let mut place = 0;
-    while i < n {
+    for i in 0..n {
         let len = t[i * 8 + 7];
-        if t[i * 8 + 5] >= 4294967296 {
-            return false;
-        }
-        if len > 65535 {
-            return false;
-        }
-        if t[i * 8 + 6] != place {
-            return false;
-        }
-        if bytes - place < len {
+        if t[i * 8 + 5] >= 4294967296
+            || len > 65535
+            || t[i * 8 + 6] != place
+            || bytes - place < len
+        {
             return false;
         }
         place += len;
-        i += 1;
     }
     place == bytes
 }
@@ -42,18 +36,13 @@ fn rounds_hold(t: &[u64], n: usize) -> bool
     requires { n * 5 ≤ length t.now }
     ensures { result ≡ rounds_hold 0 (rows_of waiting_row n t.now) }
 {
-    let mut i = 0;
     let mut lo = 0;
-    while i < n {
+    for i in 0..n {
         let born = t[i * 5];
-        if born < lo {
-            return false;
-        }
-        if born >= 4294967296 {
+        if born < lo || born >= 4294967296 {
             return false;
         }
         lo = born;
-        i += 1;
     }
     true
 }
@@ -62,56 +51,34 @@ fn rounds_hold(t: &[u64], n: usize) -> bool
 pub fn holds_entries(r: Nursery, es: &[u64]) -> bool
     ensures { result ≡ holds_entries r es.now }
 {
-    if !delay_in_range(r.delay) {
-        return false;
-    }
     let n = r.entries;
-    if !row_checks::holds_rows(es, 8, n) {
-        return false;
-    }
-    if !row_checks::ascend_wide(es, 8, n) {
-        return false;
-    }
-    fields_hold(es, n, r.cell_bytes as u64)
+    delay_in_range(r.delay)
+        && row_checks::holds_rows(es, 8, n)
+        && row_checks::ascend::<Wide>(es, 8, n)
+        && fields_hold(es, n, r.cell_bytes as u64)
 }
 
 // The same of the waiting rows, by round.
 pub fn holds_waiting(r: Nursery, ws: &[u64]) -> bool
     ensures { result ≡ holds_waiting r ws.now }
 {
-    let n = r.waiting;
-    if !row_checks::holds_rows(ws, 5, n) {
-        return false;
-    }
-    rounds_hold(ws, n)
+    row_checks::holds_rows(ws, 5, r.waiting) && rounds_hold(ws, r.waiting)
 }
 
 // Whether the cells have room for the bytes that the record says, and zeros behind them.
 pub fn holds_cells(r: Nursery, cs: &[u8]) -> bool
     ensures { result ≡ holds_cells r cs.now }
 {
-    let n = r.cell_bytes;
-    if cs.len() < n {
-        return false;
-    }
-    byte_slices::zero_from(cs, n)
+    r.cell_bytes <= cs.len() && slices::all_from(cs, r.cell_bytes, 0)
 }
 
 // Whether the record and the three tables are those of a state: the waiting table has a row for each entry, and each waiting row is an entry's.
 pub fn holds(r: Nursery, es: &[u64], ws: &[u64], cs: &[u8]) -> bool
     ensures { result ≡ layout.holds r es.now ws.now cs.now }
 {
-    if !holds_entries(r, es) {
-        return false;
-    }
-    if !holds_waiting(r, ws) {
-        return false;
-    }
-    if !holds_cells(r, cs) {
-        return false;
-    }
-    if ws.len() / 5 < r.entries {
-        return false;
-    }
-    waiting_checks::tied(r, es, ws)
+    holds_entries(r, es)
+        && holds_waiting(r, ws)
+        && holds_cells(r, cs)
+        && r.entries <= ws.len() / 5
+        && waiting_checks::tied(r, es, ws)
 }

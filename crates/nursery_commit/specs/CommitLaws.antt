@@ -8,10 +8,10 @@ use Rattle.base.specs.Logic.{any, elem, fold, repeated, max32}
 use Rattle.base.specs.SumLaws.{or_left}
 use Rattle.base.specs.declared.Refusal.{Refusal}
 use Rattle.base.specs.declared.Refusal.TheVariants.{Present, NurseryFull, TooLong, Broken}
-use Rattle.base.specs.declared.Answer.TheVariants.{Refused}
+use Rattle.base.specs.Answers.{Refused}
 use Rattle.rows.specs.Keys.{first_four, keys}
 use Rattle.cell_nursery.specs.declared.Nursery.{Nursery}
-use Rattle.cell_nursery.specs.declared.Committed.{Committed}
+use Rattle.cell_nursery.specs.Returned.{Committed}
 use Rattle.cell_nursery.specs.Entries.{cell_bytes, insert, remove}
 use Rattle.cell_nursery.specs.Delta.{too_long, present, full, state_after, apply_delta}
 use Rattle.cell_nursery.specs.Layout.{room_of, state_of, holds}

@@ -6,13 +6,12 @@ ghost use Rattle.base.specs.Logic.{any, elem, repeated};
 ghost use Rattle.rows.specs.Keys.{keys, first_four};
 ghost use Rattle.cell_nursery.specs.Layout.{holds};
 ghost use Rattle.cell_nursery.specs.Held.{EntriesHeld};
+ghost use Rattle.cell_nursery.specs.Returned.{as_committed};
 ghost use Rattle.cell_nursery.specs.Calls.{effect, length_width, delta_call};
 ghost use Rattle.delta_items.specs.Walk.{inserts_in, inserts_fit};
-ghost use Rattle.nursery_commit.specs.CommitLaws.{refused_with};
 
-use base::{Answer, Refusal};
-use cell_nursery::{Committed, Nursery};
-use delta_items::End;
+use base::Refusal;
+use cell_nursery::Nursery;
 use nursery_run::apply_items;
 
 // Whether an inserted hash is in the nursery, or comes twice.
@@ -27,16 +26,6 @@ fn any_present(r: Nursery, es: &[u64], wide: bool, inserts: u64, items: &[u8]) -
     delta_checks::any_repeated(wide, inserts, items)
 }
 
-// A refusal: all stays as it was.
-fn refused(why: Refusal, r: Nursery) -> Committed
-    ensures { result ≡ refused_with why r }
-{
-    Committed {
-        answer: Answer::Refused(why),
-        nursery: r,
-    }
-}
-
 // A delta on tables that hold a state.
 pub fn apply_commit_held(
     r: Nursery,
@@ -47,28 +36,22 @@ pub fn apply_commit_held(
     inserts: u64,
     removes: u64,
     items: &[u8],
-) -> Committed
+) -> Result<Nursery, Refusal>
     requires { holds r es.old ws.old cs.old ≡ true }
-    ensures { effect result es.new ws.new cs.new ≡ delta_call r es.old ws.old cs.old wide inserts removes items.now }
+    ensures { effect (as_committed r result) es.new ws.new cs.new ≡ delta_call r es.old ws.old cs.old wide inserts removes items.now }
 {
-    let End::At(at) = delta_items::removes_at(items, wide, inserts, removes) else {
-        return refused(Refusal::Broken, r);
-    };
+    let at = delta_items::removes_at(items, wide, inserts, removes).ok_or(Refusal::Broken)?;
     if delta_items::any_too_long(items, wide, inserts, removes) {
-        return refused(Refusal::TooLong, r);
+        return Err(Refusal::TooLong);
     }
     if any_present(r, es, wide, inserts, items) {
-        return refused(Refusal::Present, r);
+        return Err(Refusal::Present);
     }
     let bytes = delta_items::cell_bytes(at, wide, inserts);
     if delta_checks::is_full(r, es.len(), ws.len(), cs.len(), inserts, bytes) {
-        return refused(Refusal::NurseryFull, r);
+        return Err(Refusal::NurseryFull);
     }
-    let nursery = apply_items(r, es, ws, cs, wide, inserts, removes, items, at);
-    Committed {
-        answer: Answer::Taken,
-        nursery,
-    }
+    Ok(apply_items(r, es, ws, cs, wide, inserts, removes, items, at))
 }
 
 // A delta: its two list lengths and its items, whose cells' lengths have 4 bytes where `wide` says so, else 2.
@@ -81,11 +64,11 @@ pub fn apply_commit(
     inserts: u64,
     removes: u64,
     items: &[u8],
-) -> Committed
-    ensures { effect result es.new ws.new cs.new ≡ delta_call r es.old ws.old cs.old wide inserts removes items.now }
+) -> Result<Nursery, Refusal>
+    ensures { effect (as_committed r result) es.new ws.new cs.new ≡ delta_call r es.old ws.old cs.old wide inserts removes items.now }
 {
     if !nursery_checks::holds(r, es, ws, cs) {
-        return refused(Refusal::Broken, r);
+        return Err(Refusal::Broken);
     }
     apply_commit_held(r, es, ws, cs, wide, inserts, removes, items)
 }

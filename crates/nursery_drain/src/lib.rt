@@ -4,9 +4,10 @@
 ghost use Rattle.std.specs.Prelude.{◌≡◌, true};
 ghost use Rattle.cell_nursery.specs.Layout.{holds};
 ghost use Rattle.cell_nursery.specs.Calls.{drain_effect, drain_call};
+ghost use Rattle.cell_nursery.specs.Returned.{as_drained};
 
-use base::{Answer, Refusal};
-use cell_nursery::{Drained, Nursery};
+use base::Refusal;
+use cell_nursery::Nursery;
 use drain_rows::{due_rows, rows_fit, write_rows};
 
 // Draining at a round, where the record and the tables hold a state: for callers that own their tables.
@@ -17,33 +18,18 @@ pub fn drain_promotable_held(
     cs: &[u8],
     round: u32,
     out: &mut [u8],
-) -> Drained
+) -> Result<(usize, Nursery), Refusal>
     requires { holds r es.now ws.old cs.now ≡ true }
-    ensures { drain_effect result out.new ws.new ≡ drain_call r es.now ws.old cs.now round out.old }
+    ensures { drain_effect (as_drained r result) out.new ws.new ≡ drain_call r es.now ws.old cs.now round out.old }
 {
     let k = due_rows(r, ws, round);
     if !rows_fit(r, es, ws, cs, k, out.len()) {
-        // no waiting row goes with it
-        let nursery = r;
-        return Drained {
-            answer: Answer::Refused(Refusal::OutputFull),
-            len: 0,
-            nursery,
-        };
+        return Err(Refusal::OutputFull);
     }
     let len = write_rows(r, es, ws, cs, k, out);
     row_moves::remove_row(ws, 0, r.waiting * 5, k * 5);
     let waiting = r.waiting - k;
-    Drained {
-        answer: Answer::Taken,
-        len,
-        nursery: Nursery {
-            entries: r.entries,
-            waiting,
-            cell_bytes: r.cell_bytes,
-            delay: r.delay,
-        },
-    }
+    Ok((len, Nursery { waiting, ..r }))
 }
 
 // Draining at a round: what is handed out goes to the start of the output, and with 15 nothing is handed out or changed.
@@ -54,15 +40,11 @@ pub fn drain_promotable(
     cs: &[u8],
     round: u32,
     out: &mut [u8],
-) -> Drained
-    ensures { drain_effect result out.new ws.new ≡ drain_call r es.now ws.old cs.now round out.old }
+) -> Result<(usize, Nursery), Refusal>
+    ensures { drain_effect (as_drained r result) out.new ws.new ≡ drain_call r es.now ws.old cs.now round out.old }
 {
     if !nursery_checks::holds(r, es, ws, cs) {
-        return Drained {
-            answer: Answer::Refused(Refusal::Broken),
-            len: 0,
-            nursery: r,
-        };
+        return Err(Refusal::Broken);
     }
     drain_promotable_held(r, es, ws, cs, round, out)
 }

@@ -1,6 +1,6 @@
 -- The rows that an insert writes, and the test by which a remove keeps waiting rows.
 -- Assumes nothing.
-use Rattle.std.specs.Prelude.{◌≡◌, ℕ, ◌+◌, ◌*◌, ◌-◌, Bool, not, List, ◌++◌, take, drop, eqb}
+use Rattle.std.specs.Prelude.{◌≡◌, ℕ, ◌+◌, ◌*◌, ◌-◌, ◌^◌, ◌<◌, Bool, not, List, ◌++◌, take, drop, eqb}
 use Rattle.rows.specs.declared.Wide.{Wide}
 use Rattle.rows.specs.Keys.{first_four}
 use Rattle.rows.specs.Wide.{key_of}
@@ -13,6 +13,10 @@ row_for hash idx born place len = record { hash = words_of hash; idx = idx; born
 
 abbrev pub waiter_for : ℕ → Wide → WaitingRow
 waiter_for born hash = record { born = born; hash = words_of hash }
+
+-- a call of a closure on a place answers the place that g says
+abbrev pub Moves : (ℕ → ℕ → Type 0) → (ℕ → ℕ) → Type 0
+Moves post g = (p q : ℕ) → p < 2 ^ 64 → post p q → q ≡ g p
 
 -- the row is of another hash
 abbrev pub other : ℕ → WaitingRow → Bool

@@ -1,5 +1,5 @@
 // The waiting table: a row put behind those of its round, and the rows of a hash taken out.
-ghost use Rattle.std.specs.Prelude.{◌≡◌, true, suc, ◌+◌, ◌*◌, ◌-◌, ◌≤◌, eqb, length, drop};
+ghost use Rattle.std.specs.Prelude.{◌≡◌, true, suc, ◌+◌, ◌*◌, ◌-◌, ◌≤◌, length, drop};
 ghost use Rattle.std.proofs.Math.Seq.{paste};
 ghost use Rattle.base.specs.Logic.{pick, keep, sorted_from};
 ghost use Rattle.rows.specs.Table.{rows_of, table_of, Laid};
@@ -21,31 +21,15 @@ pub fn insert_waiting(t: &mut [u64], n: usize, born: u64, hash: Wide)
     row_moves::insert_row(t, k * 5, n * 5, &row);
 }
 
-// Whether the two keys are the same.
-pub fn same(a: Wide, b: Wide) -> bool
-    ensures { result ≡ eqb (key_of a) (key_of b) }
-{
-    if a.0 != b.0 {
-        return false;
-    }
-    if a.1 != b.1 {
-        return false;
-    }
-    if a.2 != b.2 {
-        return false;
-    }
-    a.3 == b.3
-}
-
 // Row i goes to row j, which is no later, if its hash is another. Returns the row behind.
 fn keep_row(t: &mut [u64], i: usize, j: usize, hash: Wide) -> usize
     requires { (j ≤ i) × (i * 5 + 5 ≤ length t.old) }
     ensures { (result ≡ pick (other (key_of hash) (waiting_row.dec (drop (i * 5) t.old))) (j + 1) j) × (t.new ≡ pick (other (key_of hash) (waiting_row.dec (drop (i * 5) t.old))) (paste t.old (j * 5) (drop (i * 5) t.old) 5) t.old) }
 {
-    if same(row_search::wide_at(t, i * 5 + 1), hash) {
+    if row_search::wide_at(t, i * 5 + 1) == hash {
         return j;
     }
-    word_slices::move_down(t, i * 5, j * 5, 5);
+    slices::move_within(t, i * 5, j * 5, 5);
     j + 1
 }
 
@@ -55,11 +39,8 @@ fn keep_others(t: &mut [u64], n: usize, hash: Wide) -> usize
     ensures { Keeping (other (key_of hash)) n t.old t.new n result }
 {
     let mut j = 0;
-    let mut i = 0;
-    while i < n {
-        let next = keep_row(t, i, j, hash);
-        j = next;
-        i += 1;
+    for i in 0..n {
+        j = keep_row(t, i, j, hash);
     }
     j
 }
@@ -70,6 +51,6 @@ pub fn remove_waiting(t: &mut [u64], n: usize, hash: Wide) -> usize
     ensures { (result ≡ length (keep (other (key_of hash)) (rows_of waiting_row n t.old))) × (t.new ≡ table_of waiting_row (length t.old) (keep (other (key_of hash)) (rows_of waiting_row n t.old))) }
 {
     let kept = keep_others(t, n, hash);
-    word_slices::fill(t, kept * 5, n * 5 - kept * 5, 0);
+    slices::fill(t, kept * 5, n * 5 - kept * 5, 0);
     kept
 }

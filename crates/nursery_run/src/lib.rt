@@ -52,12 +52,9 @@ fn apply_inserts(
 {
     let mut q = r;
     let mut at = 0;
-    let mut i: u64 = 0;
-    while i < inserts {
-        let next = insert_at(q, es, ws, cs, wide, items, at);
-        q = next;
+    for _ in 0..inserts {
+        q = insert_at(q, es, ws, cs, wide, items, at);
         at = delta_items::insert_end(items, at, wide);
-        i += 1;
     }
     q
 }
@@ -77,12 +74,9 @@ fn apply_removes(
     ensures { left result es.new ws.new cs.new ≡ laid r.delay es.old ws.old cs.old (fold remove (hashes_in removes (drop at items.now)) (state_of r es.old ws.old cs.old)) }
 {
     let mut q = r;
-    let mut j: u64 = 0;
-    while j < removes {
+    for j in 0..removes {
         let hash = hash_words::wide_of(items, at + 32 * j as usize);
-        let next = remove_held(q, es, ws, cs, hash);
-        q = next;
-        j += 1;
+        q = remove_held(q, es, ws, cs, hash);
     }
     q
 }

@@ -1,8 +1,8 @@
 -- A remove in the lent tables: what its parts require holds, and their work is the remove's.
 -- Assumes nothing.
-use Rattle.std.specs.Prelude.{◌≡◌, true, false, ◌&&◌, ℕ, suc, ◌+◌, ◌*◌, ◌-◌, ◌≤◌, ◌<◌, take, drop, get_or, ltb, eqb}
-use Rattle.std.proofs.Math.Path.{sym, ap}
-use Rattle.std.proofs.Common.{◌∙◌, arith, length-append, length-drop, take-append-drop, take-suc, take-add, length-take-le, lt-ltb, ltb-true, eqb-true, eq-eqb}
+use Rattle.std.specs.Prelude.{◌≡◌, true, false, ◌&&◌, ℕ, suc, ◌+◌, ◌*◌, ◌-◌, ◌≤◌, ◌<◌, take, drop, get_or, ltb, eqb, Some, None}
+use Rattle.std.proofs.Math.Path.{refl, sym, ap}
+use Rattle.std.proofs.Common.{◌∙◌, arith, length-append, length-drop, take-append-drop, take-suc, take-add, length-take-le, lt-ltb, le-ltb, ltb-true, eqb-true, eq-eqb, ne_eqb}
 use Rattle.std.proofs.Math.Bool.{not}
 use mathlib.Core.List.{List, ◌∷◌, [], ◌++◌, map}
 use Rattle.std.proofs.Math.ListN.{length}
@@ -11,7 +11,7 @@ use Rattle.base.specs.Logic.{keep, zeros, sum_of}
 use Rattle.base.specs.Laws.{and_left, and_right}
 use Rattle.rows.specs.Table.{rows_of, table_of}
 use Rattle.rows.specs.Keys.{first_four, keys, place}
-use Rattle.rows.proofs.KeyLaws.{key-at}
+use Rattle.rows.proofs.KeyLaws.{key-at, length-keys}
 use Rattle.cell_nursery.specs.declared.Nursery.{Nursery}
 use Rattle.cell_nursery.specs.Entries.{Entry, cell_bytes, remove}
 use Rattle.cell_nursery.specs.Layout.{entry_row, entry_of, waiting_row, waiting_row_of, entry_rows, cells_of, record_of, entries_table, waiting_table, cells_table, entries_of, waiting_of, state_of, holds}
@@ -19,7 +19,11 @@ use Rattle.cell_nursery.specs.Calls.{laid}
 use Rattle.cell_nursery.specs.Held.{U64, Held}
 use Rattle.cell_nursery.proofs.LayoutLaws.{held, number-entries, entries-keys, bytes_same}
 use Rattle.cell_nursery.proofs.StepLaws.{bytes_before, bytes-append, place_at, len-at, entries-hit, rows-kept, key-absent, entries-left, entries-removed, cells-removed, waiting-removed}
-use Rattle.cell_nursery.specs.Rows.{earlier}
+use Rattle.cell_nursery.specs.Rows.{earlier, index_of}
+use Rattle.cell_nursery.proofs.SearchLaws.{index-found, search-hit, search-miss}
+use Rattle.nursery_lookup.specs.Rows.{row_in}
+use Rattle.nursery_lookup.specs.RowLaws.{row-found, none-found}
+use Rattle.std.proofs.Math.Decide.{dec_lt}
 use Rattle.nursery_rows.specs.Rows.{other}
 use Rattle.nursery_steps.specs.Steps.{left}
 use Rattle.nursery_steps.specs.InsertLaws.{before-le}
@@ -37,6 +41,39 @@ bytes-grow j i es h =
 module _ (r : Nursery) (es ws cs : List ℕ) (u : U64 es) (v : U64 ws) (o : holds r es ws cs ≡ true) (h : ℕ) where
   pub all_held : Held r es ws cs
   all_held = held r es ws cs u v o
+
+  -- ---- what a search for the hash tells of the row at the hash's place
+  abbrev ks : List ℕ
+  ks = keys first_four 8 r.entries es
+
+  -- the row that it finds is that row, and has the hash
+  pub found-there : (k : ℕ) → Some k ≡ row_in r.entries (index_of h ks) → (k ≡ place h ks) × ((ltb k r.entries && eqb (first_four (drop (k * 8) es)) h) ≡ true)
+  found-there k e =
+      let x = all_held.entries in
+      let f = row-found r.entries (index_of h ks) k e in
+      let here : get_or ks k 0 ≡ h = rw f.1 (index-found h ks (omega (arith, f.0, f.1, length-keys first_four 8 r.entries es))) in
+      let hit : (ltb k r.entries && eqb (first_four (drop (k * 8) es)) h) ≡ true =
+      rw (lt-ltb k r.entries f.0, eq-eqb (first_four (drop (k * 8) es)) h (sym (key-at first_four 8 r.entries es k f.0) ∙ here)) in
+      elim (dec_lt (place h ks) r.entries) [
+        | no p ↦ absurd (omega (arith, f.0, f.1, search-miss r es x h (place h ks) refl (λ l. absurd (p l))))
+        | yes p ↦
+            elim (dec_lt h (get_or ks (place h ks) 0)) [
+              | yes m ↦ absurd (omega (arith, f.0, f.1, search-miss r es x h (place h ks) refl (λ l. m)))
+              | no m ↦ (f.1 ∙ sym (search-hit r es x h (place h ks) refl p m), hit)
+            ]
+      ]
+
+  -- where it finds none, that row, if there is one, is another's
+  pub none-there : None ≡ row_in r.entries (index_of h ks) → (ltb (place h ks) r.entries && eqb (first_four (drop (place h ks * 8) es)) h) ≡ false
+  none-there e =
+      let past = none-found r.entries (index_of h ks) e in
+      elim (dec_lt (place h ks) r.entries) [
+        | no p ↦ rw (le-ltb (place h ks) r.entries (omega arith))
+        | yes p ↦
+            let other : first_four (drop (place h ks * 8) es) ≡ h → ⊥ =
+            λ q. let m : get_or ks (place h ks) 0 ≡ h = key-at first_four 8 r.entries es (place h ks) p ∙ q in omega (arith, past, search-hit r es all_held.entries h (place h ks) refl p (omega (arith, m))) in
+            rw (lt-ltb (place h ks) r.entries p, ne_eqb (first_four (drop (place h ks * 8) es)) h other)
+      ]
 
   -- the waiting rows that are left
   waiting-left : length (remove h (state_of r es ws cs)).waiting ≡ length (keep (other h) (rows_of waiting_row r.waiting ws))

@@ -2,7 +2,7 @@
 -- Assumes nothing.
 use Rattle.std.specs.Prelude.{◌≡◌, true, false, List, map, ℕ, suc, ◌+◌, ◌≤◌, length}
 use Rattle.base.specs.Logic.{elem}
-use Rattle.base.specs.declared.Answer.TheVariants.{Taken}
+use Rattle.base.specs.Answers.{Taken}
 use Rattle.rows.specs.declared.Wide.{Wide}
 use Rattle.rows.specs.Wide.{key_of}
 use Rattle.cell_nursery.specs.declared.Nursery.{Nursery}

@@ -32,7 +32,7 @@ pub fn insert_held(
     let n = r.entries;
     let m = r.waiting;
     let end = r.cell_bytes;
-    let k = row_search::find_wide(es, 8, n, hash);
+    let k = row_search::find(es, 8, n, hash);
     let place = entries::place_of(es, k, n, end);
     entries::insert_entry(es, k, n, hash, idx, born as u64, place as u64, len as u64);
     cells::insert_cell(cs, place, end, items, at, len);
@@ -50,27 +50,18 @@ pub fn remove_held(r: Nursery, es: &mut [u64], ws: &mut [u64], cs: &mut [u8], ha
     requires { holds r es.old ws.old cs.old ≡ true }
     ensures { left result es.new ws.new cs.new ≡ laid r.delay es.old ws.old cs.old (remove (key_of hash) (state_of r es.old ws.old cs.old)) }
 {
-    let n = r.entries;
-    let m = r.waiting;
-    let end = r.cell_bytes;
-    let waiting = waiting::remove_waiting(ws, m, hash);
-    let k = row_search::find_wide(es, 8, n, hash);
-    if !entries::is_at(es, k, n, hash) {
-        return Nursery {
-            entries: n,
-            waiting,
-            cell_bytes: end,
-            delay: r.delay,
-        };
-    }
-    let place = es[k * 8 + 6];
-    let len = es[k * 8 + 7];
-    entries::remove_entry(es, k, n, len);
-    cells::remove_cell(cs, place as usize, end, len as usize);
+    let waiting = waiting::remove_waiting(ws, r.waiting, hash);
+    let Some(k) = nursery_lookup::find_hash(r, es, hash) else {
+        return Nursery { waiting, ..r };
+    };
+    let place = es[k * 8 + 6] as usize;
+    let len = es[k * 8 + 7] as usize;
+    entries::remove_entry(es, k, r.entries, len as u64);
+    cells::remove_cell(cs, place, r.cell_bytes, len);
     Nursery {
-        entries: n - 1,
+        entries: r.entries - 1,
         waiting,
-        cell_bytes: end - len as usize,
+        cell_bytes: r.cell_bytes - len,
         delay: r.delay,
     }
 }

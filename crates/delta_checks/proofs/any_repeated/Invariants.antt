@@ -4,11 +4,7 @@ use Rattle.cell_nursery.specs.Calls.{length_width}
 use Rattle.delta_items.specs.Walk.{inserts_in, inserts_len, inserts_from}
 use Rattle.delta_items.specs.WalkLaws.{Left}
 use mathlib.Core.Path.{◌≡◌}
-use Prim.Native.Nat.{◌-◌}
 use Rattle.delta_checks.proofs.any_repeated.Given as goal
 
 abbrev pub invariant-loop-i : goal.invariant-loop-i
 invariant-loop-i l = (Left (length_width l.wide) l.inserts l.i l.at (inserts_len (length_width l.wide) l.inserts l.items) l.items) × (repeated (map (λ e. e.hash) (inserts_from (length_width l.wide) l.inserts l.i l.at l.items)) ≡ repeated (map (λ e. e.hash) (inserts_in (length_width l.wide) l.inserts l.items)))
-
-abbrev pub decreases-loop-i : goal.decreases-loop-i
-decreases-loop-i l = l.inserts - l.i

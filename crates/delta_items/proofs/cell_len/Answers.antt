@@ -1,23 +1,12 @@
 -- `delta_items::cell_len`. By the width of the length.
 -- Assumes nothing.
-use native.Mathlib.Omega.{arith}
 use lib.Seq.{drop-drop}
 use Rattle.delta_items.proofs.cell_len.Goals as goal
-
-pub read_le32-requires : goal.read_le32-requires
-read_le32-requires c =
-    let p = rw c.if-wide.true at c.requires in
-    omega arith
 
 pub returns-then-wide : goal.returns-then-wide
 returns-then-wide c =
     let a = c.args in
     rw (c.if-wide.true, drop-drop 44 a.at a.items.now) c.read_le32.ensures
-
-pub read_le16-requires : goal.read_le16-requires
-read_le16-requires c =
-    let p = rw c.if-wide.false at c.requires in
-    omega arith
 
 pub returns : goal.returns
 returns c =

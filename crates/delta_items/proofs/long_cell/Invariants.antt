@@ -1,14 +1,10 @@
--- `delta_items::long_cell`. The invariant: a cell of all inserts is over the limit exactly where one of those from insert i on is.
+-- `delta_items::long_cell`. The invariant: a cell of all inserts is over the limit exactly where one of those from insert `counter` on is.
 -- Assumes nothing.
 use mathlib.Core.Path.{◌≡◌}
-use Prim.Native.Nat.{◌-◌}
 use Rattle.cell_nursery.specs.Calls.{length_width}
 use Rattle.delta_items.specs.Walk.{inserts_in, inserts_len, inserts_from, long_cell}
 use Rattle.delta_items.specs.WalkLaws.{Left}
 use Rattle.delta_items.proofs.long_cell.Given as goal
 
-abbrev pub invariant-loop-i : goal.invariant-loop-i
-invariant-loop-i l = (Left (length_width l.wide) l.inserts l.i l.at (inserts_len (length_width l.wide) l.inserts l.items) l.items) × (long_cell (inserts_from (length_width l.wide) l.inserts l.i l.at l.items) ≡ long_cell (inserts_in (length_width l.wide) l.inserts l.items))
-
-abbrev pub decreases-loop-i : goal.decreases-loop-i
-decreases-loop-i l = l.inserts - l.i
+abbrev pub invariant-loop : goal.invariant-loop
+invariant-loop l = (Left (length_width l.wide) l.inserts l.counter l.at (inserts_len (length_width l.wide) l.inserts l.items) l.items) × (long_cell (inserts_from (length_width l.wide) l.inserts l.counter l.at l.items) ≡ long_cell (inserts_in (length_width l.wide) l.inserts l.items))

@@ -2,38 +2,27 @@
 -- Assumes nothing.
 use Rattle.cell_nursery.proofs.PrefixLaws.{handed-length, handed-none}
 use Rattle.cell_nursery.proofs.OutputLaws.{row_fits}
-use Rattle.cell_nursery.specs.Rows.{waiter_at_row}
+use Rattle.cell_nursery.specs.Rows.{promoted_row, waiter_at_row}
+use Rattle.nursery_lookup.specs.RowLaws.{row-found, none-found}
 use lib.ListN.{length}
-use mathlib.Core.Path.{sym, ap}
+use mathlib.Core.Path.{refl, sym, ap}
 use native.Mathlib.Omega.{arith}
 use Rattle.drain_rows.proofs.row_len.Goals as goal
 
-pub promoted_row-k-requires : goal.promoted_row-k-requires
-promoted_row-k-requires c = (c.requires.0, c.requires.2)
-
-pub overflow_mul-result : goal.overflow_mul-result
-overflow_mul-result c = omega (arith, c.requires.0.laid.fits)
-
-pub overflow_add-result : goal.overflow_add-result
-overflow_add-result c = omega (arith, c.requires.0.laid.fits)
-
-pub offset_bounds-es-k : goal.offset_bounds-es-k
-offset_bounds-es-k c = omega (arith, c.requires.0.laid.fits)
-
-pub bounds-es-k : goal.bounds-es-k
-bounds-es-k c = omega (arith, c.requires.0.laid.fits)
-
-pub overflow_add-result-then-k-r : goal.overflow_add-result-then-k-r
-overflow_add-result-then-k-r c =
+pub overflow_add-result-in-Some : goal.overflow_add-result-in-Some
+overflow_add-result-in-Some c =
     let a = c.args in
-    omega (arith, (row_fits a.r a.es.now a.cs.now c.requires.0 c.requires.1 c.promoted_row-k.result c.if-k-r.true).len)
+    let f = row-found a.r.entries _ c.in-Some.k c.in-Some.ensures.row in
+    omega (arith, (row_fits a.r a.es.now a.cs.now c.requires.0 c.requires.1 c.in-Some.k f.0).len)
 
-pub returns-then-k-r : goal.returns-then-k-r
-returns-then-k-r c =
+pub returns-in-Some : goal.returns-in-Some
+returns-in-Some c =
     let a = c.args in
-    handed-length a.r a.es.now a.cs.now c.requires.0 c.requires.1 (waiter_at_row a.ws.now a.i) c.promoted_row-k.result c.promoted_row-k.ensures c.if-k-r.true
+    let f = row-found a.r.entries _ c.in-Some.k c.in-Some.ensures.row in
+    handed-length a.r a.es.now a.cs.now c.requires.0 c.requires.1 (waiter_at_row a.ws.now a.i) c.in-Some.k f.1 f.0
 
-pub returns : goal.returns
-returns c =
+pub returns-in-None : goal.returns-in-None
+returns-in-None c =
     let a = c.args in
-    sym (ap length (handed-none a.r a.es.now a.cs.now c.requires.0 c.requires.1 (waiter_at_row a.ws.now a.i) c.promoted_row-k.result c.promoted_row-k.ensures c.if-k-r.false))
+    let w = waiter_at_row a.ws.now a.i in
+    sym (ap length (handed-none a.r a.es.now a.cs.now c.requires.0 c.requires.1 w (promoted_row a.r a.es.now w) refl (none-found a.r.entries _ c.in-None.ensures.row)))

@@ -32,7 +32,7 @@ number k r ws h = length-take-le k (waiting_of r.waiting ws) (rw (number-waiting
 
 pub loop-i-init : goal.loop-i-init
 unfolding flat
-loop-i-init c = (omega arith, omega arith)
+loop-i-init c = omega arith
 
 pub row_len-len-requires : goal.row_len-len-requires
 row_len-len-requires c = (c.requires.0, c.requires.1, omega arith)
@@ -65,4 +65,4 @@ loop-i-preserved c =
     let q : List Waiting = due_of a.k a.r a.ws.now in
     let n = number a.k a.r a.ws.now c.requires.2 in
     let g = c.row_len-len.ensures ∙ ap (λ (w : Waiting). length (out_of a.r a.es.now a.cs.now w)) (sym (waiter-of-row a.r.waiting a.ws.now a.k l.i (omega arith) c.requires.2)) in
-    (omega arith, omega (arith, length-next o q l.i none_of (omega arith) (length (flat o (take l.i q))) c.row_len-len.result refl g))
+    omega (arith, length-next o q l.i none_of (omega arith) (length (flat o (take l.i q))) c.row_len-len.result refl g)

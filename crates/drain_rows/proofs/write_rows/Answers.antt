@@ -30,7 +30,7 @@ number k r ws h = length-take-le k (waiting_of r.waiting ws) (rw (number-waiting
 
 pub loop-i-init : goal.loop-i-init
 unfolding flat
-loop-i-init c = (omega arith, refl, paste-zero c.args.out.now 0 [], refl)
+loop-i-init c = (refl, paste-zero c.args.out.now 0 [], refl)
 
 pub write_row-at-requires : goal.write_row-at-requires
 write_row-at-requires c =
@@ -69,9 +69,8 @@ loop-i-preserved c =
     let e = c.write_row-at.ensures in
     let m = c.write_row-at.result in
     let q : m ≡ length (o (get_or d l.i none_of)) = e.0 ∙ sym g in (
-      omega arith,
-      length-next o d l.i none_of (omega arith) l.at m l.invariant.1 q,
-      e.1 ∙ ap (λ (x : Waiting). paste l.out l.at (o x) m) (sym w) ∙ paste-next o d l.i none_of (omega arith) a.out.now l.out l.at m l.invariant.1 q l.invariant.2,
+      length-next o d l.i none_of (omega arith) l.at m l.invariant.0 q,
+      e.1 ∙ ap (λ (x : Waiting). paste l.out l.at (o x) m) (sym w) ∙ paste-next o d l.i none_of (omega arith) a.out.now l.out l.at m l.invariant.0 q l.invariant.1,
       omega arith,
     )
 
@@ -83,4 +82,4 @@ returns c =
     let d : List Waiting = due_of a.k a.r a.ws.now in
     let n = number a.k a.r a.ws.now c.requires.entries_held.2 in
     let q = ap (λ (x : List Waiting). length (flat o x)) (take_all l.i d (omega arith)) in
-    (l.invariant.1 ∙ q, paste_all o d l.i c.args.out.now l.out l.at (omega arith) l.invariant.1 l.invariant.2)
+    (l.invariant.0 ∙ q, paste_all o d l.i c.args.out.now l.out l.at (omega arith) l.invariant.0 l.invariant.1)

@@ -6,11 +6,7 @@ use Rattle.base.specs.Logic.{flat}
 use lib.Seq.{paste}
 use lib.ListN.{length, take}
 use mathlib.Core.Path.{◌≡◌}
-use Prim.Native.Nat.{◌-◌, ◌≤◌}
 use Rattle.drain_rows.proofs.write_rows.Given as goal
 
 abbrev pub invariant-loop-i : goal.invariant-loop-i
-invariant-loop-i l = (l.i ≤ l.k) × (l.at ≡ length (flat (handed_out (entries_of l.r.entries l.es l.cs)) (take l.i (take l.k (waiting_of l.r.waiting l.ws))))) × (l.out ≡ paste l.initial.out 0 (flat (handed_out (entries_of l.r.entries l.es l.cs)) (take l.i (take l.k (waiting_of l.r.waiting l.ws)))) l.at) × (length l.out ≡ length l.initial.out)
-
-abbrev pub decreases-loop-i : goal.decreases-loop-i
-decreases-loop-i l = l.k - l.i
+invariant-loop-i l = (l.at ≡ length (flat (handed_out (entries_of l.r.entries l.es l.cs)) (take l.i (take l.k (waiting_of l.r.waiting l.ws))))) × (l.out ≡ paste l.initial.out 0 (flat (handed_out (entries_of l.r.entries l.es l.cs)) (take l.i (take l.k (waiting_of l.r.waiting l.ws)))) l.at) × (length l.out ≡ length l.initial.out)

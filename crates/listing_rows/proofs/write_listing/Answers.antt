@@ -13,47 +13,35 @@ use Rattle.listing_rows.proofs.write_listing.Goals as goal
 
 pub loop-i-init : goal.loop-i-init
 unfolding flat
-loop-i-init c = (omega arith, refl, paste-zero c.args.out.now 0 [], refl)
+loop-i-init c = (refl, paste-zero c.args.out.now 0 [], refl)
 
 pub write_insert-requires : goal.write_insert-requires
 write_insert-requires c =
     let l = c.loop-i in
     let a = c.args in
-    (row_fits a.r a.es.now a.cs.now c.requires.0 c.requires.1 l.i (omega arith), omega (arith, insert-room a.r a.es.now a.cs.now c.requires.0 c.requires.1 l.i (omega arith) l.at l.invariant.1, c.requires.2))
-
-pub overflow_mul-at : goal.overflow_mul-at
-overflow_mul-at c = omega (arith, c.requires.0.laid.fits)
-
-pub overflow_add-at : goal.overflow_add-at
-overflow_add-at c = omega (arith, c.requires.0.laid.fits)
-
-pub offset_bounds-es-i : goal.offset_bounds-es-i
-offset_bounds-es-i c = omega (arith, c.requires.0.laid.fits)
-
-pub bounds-es-i : goal.bounds-es-i
-bounds-es-i c = omega (arith, c.requires.0.laid.fits)
+    (row_fits a.r a.es.now a.cs.now c.requires.0 c.requires.1 l.i (omega arith), omega (arith, insert-room a.r a.es.now a.cs.now c.requires.0 c.requires.1 l.i (omega arith) l.at l.invariant.0, c.requires.2))
 
 pub overflow_add-at-in-loop-i : goal.overflow_add-at-in-loop-i
 overflow_add-at-in-loop-i c =
     let l = c.loop-i in
     let a = c.args in
-    omega (arith, insert-room a.r a.es.now a.cs.now c.requires.0 c.requires.1 l.i (omega arith) l.at l.invariant.1, c.requires.2)
+    omega (arith, insert-room a.r a.es.now a.cs.now c.requires.0 c.requires.1 l.i (omega arith) l.at l.invariant.0, c.requires.2)
 
 pub overflow_add-at-in-loop-i-2 : goal.overflow_add-at-in-loop-i-2
 overflow_add-at-in-loop-i-2 c =
     let l = c.loop-i in
     let a = c.args in
-    omega (arith, insert-room a.r a.es.now a.cs.now c.requires.0 c.requires.1 l.i (omega arith) l.at l.invariant.1, c.requires.2)
+    omega (arith, insert-room a.r a.es.now a.cs.now c.requires.0 c.requires.1 l.i (omega arith) l.at l.invariant.0, c.requires.2)
 
 pub loop-i-preserved : goal.loop-i-preserved
 loop-i-preserved c =
     let l = c.loop-i in
     let a = c.args in
-    (omega arith, insert-length a.r a.es.now a.cs.now c.requires.0 c.requires.1 l.i (omega arith) l.at l.invariant.1, c.write_insert.ensures ∙ insert-next a.r a.es.now a.cs.now c.requires.0 c.requires.1 l.i (omega arith) l.at l.invariant.1 a.out.now l.out l.invariant.2, omega arith)
+    (insert-length a.r a.es.now a.cs.now c.requires.0 c.requires.1 l.i (omega arith) l.at l.invariant.0, c.write_insert.ensures ∙ insert-next a.r a.es.now a.cs.now c.requires.0 c.requires.1 l.i (omega arith) l.at l.invariant.0 a.out.now l.out l.invariant.1, omega arith)
 
 pub returns : goal.returns
 unfolding listing_bytes
 returns c =
     let l = c.loop-i in
     let a = c.args in
-    paste_all insert_bytes (entries_of a.r.entries a.es.now a.cs.now) l.i a.out.now l.out l.at (rw (number-entries a.r a.es.now a.cs.now) (omega arith)) l.invariant.1 l.invariant.2
+    paste_all insert_bytes (entries_of a.r.entries a.es.now a.cs.now) l.i a.out.now l.out l.at (rw (number-entries a.r a.es.now a.cs.now) (omega arith)) l.invariant.0 l.invariant.1

@@ -6,11 +6,7 @@ use Rattle.cell_nursery.specs.Layout.{entries_of}
 use Rattle.cell_nursery.specs.Entries.{insert_bytes}
 use Rattle.base.specs.Logic.{flat}
 use mathlib.Core.Path.{◌≡◌}
-use Prim.Native.Nat.{◌-◌, ◌≤◌}
 use Rattle.listing_rows.proofs.write_listing.Given as goal
 
 abbrev pub invariant-loop-i : goal.invariant-loop-i
-invariant-loop-i l = (l.i ≤ l.n) × (l.at ≡ length (flat insert_bytes (take l.i (entries_of l.n l.es l.cs)))) × (l.out ≡ paste l.initial.out 0 (flat insert_bytes (take l.i (entries_of l.n l.es l.cs))) l.at) × (length l.out ≡ length l.initial.out)
-
-abbrev pub decreases-loop-i : goal.decreases-loop-i
-decreases-loop-i l = l.n - l.i
+invariant-loop-i l = (l.at ≡ length (flat insert_bytes (take l.i (entries_of l.i-end l.es l.cs)))) × (l.out ≡ paste l.initial.out 0 (flat insert_bytes (take l.i (entries_of l.i-end l.es l.cs))) l.at) × (length l.out ≡ length l.initial.out)

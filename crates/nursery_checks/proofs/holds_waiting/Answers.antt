@@ -5,13 +5,13 @@ use Rattle.rows.proofs.TableLaws.{holds-laid}
 use mathlib.Core.Path.{sym, ◌∙◌}
 use Rattle.nursery_checks.proofs.holds_waiting.Goals as goal
 
-pub returns-then-not-holds_rows : goal.returns-then-not-holds_rows
-returns-then-not-holds_rows c = let a = c.args in waiting-not-laid a.r a.ws.now (sym c.holds_rows.ensures ∙ c.if-not-holds_rows.true)
-
 pub rounds_hold-requires : goal.rounds_hold-requires
-rounds_hold-requires c = let a = c.args in (holds-laid 5 a.r.waiting a.ws.now (sym c.holds_rows.ensures ∙ c.if-not-holds_rows.false)).fits
+rounds_hold-requires c = let a = c.args in (holds-laid 5 a.r.waiting a.ws.now (sym c.if-holds_rows.ensures)).fits
 
-pub returns : goal.returns
-returns c =
+pub returns-then-holds_rows : goal.returns-then-holds_rows
+returns-then-holds_rows c =
     let a = c.args in
-    c.rounds_hold.ensures ∙ waiting-by-rounds a.r a.ws.now (sym c.holds_rows.ensures ∙ c.if-not-holds_rows.false)
+    c.rounds_hold.ensures ∙ waiting-by-rounds a.r a.ws.now (sym c.if-holds_rows.ensures)
+
+pub returns-else-holds_rows : goal.returns-else-holds_rows
+returns-else-holds_rows c = let a = c.args in c.if-holds_rows.false ∙ waiting-not-laid a.r a.ws.now (sym c.if-holds_rows.ensures)

@@ -5,11 +5,7 @@ use Rattle.cell_nursery.specs.Layout.{waiting_row}
 use Rattle.rows.specs.Table.{rows_of}
 use Rattle.cell_nursery.specs.Rows.{rounds_hold}
 use mathlib.Core.Path.{◌≡◌}
-use Prim.Native.Nat.{◌-◌, ◌≤◌}
 use Rattle.nursery_checks.proofs.rounds_hold.Given as goal
 
 abbrev pub invariant-loop-i : goal.invariant-loop-i
-invariant-loop-i l = (l.i ≤ l.n) × (rounds_hold 0 (rows_of waiting_row l.n l.t) ≡ rounds_hold l.lo (drop l.i (rows_of waiting_row l.n l.t)))
-
-abbrev pub decreases-loop-i : goal.decreases-loop-i
-decreases-loop-i l = l.n - l.i
+invariant-loop-i l = (rounds_hold 0 (rows_of waiting_row l.n l.t) ≡ rounds_hold l.lo (drop l.i (rows_of waiting_row l.n l.t)))

@@ -60,9 +60,6 @@ remove_row-requires c =
     let h = (all_held d).waiting.laid.fits in
     (omega arith, omega arith)
 
-pub overflow_sub-waiting : goal.overflow_sub-waiting
-overflow_sub-waiting c = omega (arith, few (goal.at.overflow_sub-waiting c).After-due_rows-k)
-
 pub returns : goal.returns
 returns c =
     let d = (goal.at.returns c).After-due_rows-k in

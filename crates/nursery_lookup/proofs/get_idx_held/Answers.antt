@@ -1,50 +1,35 @@
 -- `nursery_lookup::get_idx_held` meets its contract: the index in the row that has the hash.
 -- Assumes nothing.
-use lib.ListN.{length}
-use Rattle.cell_nursery.proofs.LayoutLaws.{entries-held}
 use lib.Seq.{take_all}
+use Rattle.cell_nursery.proofs.LayoutLaws.{entries-held}
 use Rattle.cell_nursery.proofs.SearchLaws.{get-found, get_absent}
 use Rattle.cell_nursery.specs.Rows.{index_of}
+use Rattle.nursery_lookup.specs.RowLaws.{hash-found, hash-absent}
+use Rattle.rows.specs.Wide.{key_of}
 use Rattle.rows.specs.Keys.{keys, first_four}
 use Rattle.base.specs.Bytes.{unbe}
-use mathlib.Core.Path.{◌≡◌, ap, ◌∙◌}
-use Prim.Native.Nat.{ℕ, ◌*◌, ◌≤◌}
+use mathlib.Core.Path.{refl, ap, ◌∙◌}
 use native.Mathlib.Omega.{arith}
 use Rattle.nursery_lookup.proofs.get_idx_held.Goals as goal
 
--- the row that the search gives, by the number that the 32 bytes spell
-row : (c : goal.After-shared_slice_known-then-k-r-1) → c.find_hash-k.result ≡ index_of (unbe c.args.hash) (keys first_four 8 c.args.r.entries c.args.es.now)
-row c =
-    c.find_hash-k.ensures ∙ ap (λ (h : ℕ). index_of h (keys first_four 8 c.args.r.entries c.args.es.now)) (c.wide_of.ensures ∙ ap unbe (take_all 32 c.args.hash (omega arith)))
+pub find_hash-requires : goal.find_hash-requires
+find_hash-requires c = entries-held c.args.r c.args.es.now c.requires
 
--- the row that the search gives, by the number that the 32 bytes spell
-row-at-Else-k-r : (c : goal.Else-k-r) → c.find_hash-k.result ≡ index_of (unbe c.args.hash) (keys first_four 8 c.args.r.entries c.args.es.now)
-row-at-Else-k-r c =
-    c.find_hash-k.ensures ∙ ap (λ (h : ℕ). index_of h (keys first_four 8 c.args.r.entries c.args.es.now)) (c.wide_of.ensures ∙ ap unbe (take_all 32 c.args.hash (omega arith)))
-
-fits : (c : goal.Then-k-r) → c.args.r.entries * 8 ≤ length c.args.es.now
-fits c = (entries-held c.args.r c.args.es.now c.requires).laid.fits
-
-fits-at-After-shared_slice_known-then-k-r-1 : (c : goal.After-shared_slice_known-then-k-r-1) → c.args.r.entries * 8 ≤ length c.args.es.now
-fits-at-After-shared_slice_known-then-k-r-1 c = (entries-held c.args.r c.args.es.now c.requires).laid.fits
-
-pub find_hash-k-requires : goal.find_hash-k-requires
-find_hash-k-requires c = entries-held c.args.r c.args.es.now c.requires
-
-pub overflow_mul-result : goal.overflow_mul-result
-overflow_mul-result c = omega (arith, fits c)
-
-pub overflow_add-result : goal.overflow_add-result
-overflow_add-result c = omega (arith, fits c)
-
-pub offset_bounds-es-k : goal.offset_bounds-es-k
-offset_bounds-es-k c = omega (arith, fits c)
-
-pub bounds-es-k : goal.bounds-es-k
-bounds-es-k c = omega (arith, fits-at-After-shared_slice_known-then-k-r-1 c)
-
-pub returns-then-k-r : goal.returns-then-k-r
-returns-then-k-r c = get-found c.args.r c.args.es.now (unbe c.args.hash) c.requires c.find_hash-k.result (row c) c.if-k-r.true
+pub returns-in_err-k : goal.returns-in_err-k
+returns-in_err-k c =
+    let a = c.args in
+    let n = a.r.entries in
+    let ks = keys first_four 8 n a.es.now in
+    let h = unbe a.hash in
+    let past = hash-absent n (key_of c.wide_of.result) h ks (c.wide_of.ensures ∙ ap unbe (take_all 32 a.hash (omega arith))) c.in_err-k.ensures.row in
+    rw c.from_residual.ensures (get_absent a.r a.es.now h c.requires (index_of h ks) refl past)
 
 pub returns : goal.returns
-returns c = get_absent c.args.r c.args.es.now (unbe c.args.hash) c.requires c.find_hash-k.result (row-at-Else-k-r c) c.if-k-r.false
+returns c =
+    let a = c.args in
+    let n = a.r.entries in
+    let ks = keys first_four 8 n a.es.now in
+    let h = unbe a.hash in
+    let k = c.in_ok-k.k in
+    let here = hash-found n (key_of c.wide_of.result) h k ks (c.wide_of.ensures ∙ ap unbe (take_all 32 a.hash (omega arith))) c.in_ok-k.ensures.row in
+    get-found a.r a.es.now h c.requires k here.1 here.0

@@ -5,11 +5,7 @@ use Rattle.cell_nursery.specs.Calls.{length_width}
 use Rattle.delta_items.specs.Walk.{inserts_in, inserts_len, inserts_from}
 use Rattle.delta_items.specs.WalkLaws.{Left}
 use Rattle.nursery_run.specs.RunLaws.{Inserting}
-use Prim.Native.Nat.{◌-◌}
 use Rattle.nursery_run.proofs.apply_inserts.Given as goal
 
-abbrev pub invariant-loop-i : goal.invariant-loop-i
-invariant-loop-i l = (Left (length_width l.wide) l.inserts l.i l.at (inserts_len (length_width l.wide) l.inserts l.items) l.items) × Inserting l.initial.q.delay l.initial.es l.initial.ws l.initial.cs (fold insert (inserts_in (length_width l.wide) l.inserts l.items) (state_of l.initial.q l.initial.es l.initial.ws l.initial.cs)) (inserts_from (length_width l.wide) l.inserts l.i l.at l.items) l.q l.es l.ws l.cs
-
-abbrev pub decreases-loop-i : goal.decreases-loop-i
-decreases-loop-i l = l.inserts - l.i
+abbrev pub invariant-loop : goal.invariant-loop
+invariant-loop l = (Left (length_width l.wide) l.inserts l.counter l.at (inserts_len (length_width l.wide) l.inserts l.items) l.items) × Inserting l.initial.q.delay l.initial.es l.initial.ws l.initial.cs (fold insert (inserts_in (length_width l.wide) l.inserts l.items) (state_of l.initial.q l.initial.es l.initial.ws l.initial.cs)) (inserts_from (length_width l.wide) l.inserts l.counter l.at l.items) l.q l.es l.ws l.cs

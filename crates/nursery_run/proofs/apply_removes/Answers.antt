@@ -31,43 +31,16 @@ loop-j-init c =
       leads = refl;
     })
 
-pub overflow_mul-j : goal.overflow_mul-j
-overflow_mul-j c = omega (arith, c.requires.removes_in_bounds, c.well_formed)
-
-pub overflow_add-at : goal.overflow_add-at
-overflow_add-at c = omega (arith, c.requires.removes_in_bounds, c.well_formed)
-
-pub wide_of-hash-requires : goal.wide_of-hash-requires
-wide_of-hash-requires c = omega (arith, c.requires.removes_in_bounds)
-
-pub remove_held-next-requires : goal.remove_held-next-requires
-remove_held-next-requires c = c.loop-j.invariant.holding
-
-pub overflow_add-j : goal.overflow_add-j
-overflow_add-j c = omega (arith, c.loop-j-test, c.ranges)
-
-pub loop-j-smaller : goal.loop-j-smaller
-loop-j-smaller c = omega (arith, c.loop-j-test)
-
 pub loop-j-preserved : goal.loop-j-preserved
 loop-j-preserved c =
     let a = c.args in
     let l = c.loop-j in
     let goal = fold remove (hashes_in a.removes (drop a.at a.items.now)) (state_of a.r a.es.now a.ws.now a.cs.now) in
-    let turn = removes-turn a.removes l.j a.at a.items.now (omega (arith, c.loop-j-test)) in
+    let turn = removes-turn a.removes l.j a.at a.items.now (omega arith) in
     removing-next a.r.delay a.es.now a.ws.now a.cs.now goal (hash_in (drop (a.at + 32 * l.j) a.items.now)) (removes_from a.removes (l.j + 1) a.at a.items.now) l.q l.es l.ws l.cs
     (subst (λ (x : List ℕ). Running a.r.delay a.es.now a.ws.now a.cs.now goal (fold remove x) l.q l.es l.ws l.cs) turn l.invariant)
     _ _ _ _ (λ i. (c.type_inv.es i).fits) (λ i. (c.type_inv.ws i).fits)
-    (c.remove_held-next.ensures ∙ ap (λ (x : ℕ). laid l.q.delay l.es l.ws l.cs (remove x (state_of l.q l.es l.ws l.cs))) c.wide_of-hash.ensures)
-
-pub shape_of-es : goal.shape_of-es
-shape_of-es c = c.loop-j.invariant.size-es
-
-pub shape_of-ws : goal.shape_of-ws
-shape_of-ws c = c.loop-j.invariant.size-ws
-
-pub shape_of-cs : goal.shape_of-cs
-shape_of-cs c = c.loop-j.invariant.size-cs
+    (c.remove_held-q.ensures ∙ ap (λ (x : ℕ). laid l.q.delay l.es l.ws l.cs (remove x (state_of l.q l.es l.ws l.cs))) c.wide_of-hash.ensures)
 
 pub returns : goal.returns
 returns c =

@@ -8,10 +8,10 @@ use Rattle.nursery_table.proofs.new.Goals as goal
 pub returns-then-not-delay_in_range : goal.returns-then-not-delay_in_range
 returns-then-not-delay_in_range c =
     let a = c.args in
-    rw c.no_nursery.ensures (sym (new-bad a.delay a.es.now a.ws.now a.cs.now (sym c.delay_in_range.ensures ∙ c.if-not-delay_in_range.true)))
+    sym (new-bad a.delay a.es.now a.ws.now a.cs.now (sym c.delay_in_range.ensures ∙ c.if-not-delay_in_range.true))
 
 pub returns : goal.returns
 returns c =
     let a = c.args in
-    rw (c.fill-3.ensures, c.fill-2.ensures, c.fill.ensures)
+    rw (c.fill-3.ensures.after (λ y h. h), c.fill-2.ensures.after (λ y h. h), c.fill.ensures.after (λ y h. h))
     (new-tables a.delay (sym c.delay_in_range.ensures ∙ c.if-not-delay_in_range.false) a.es.now a.ws.now a.cs.now)

@@ -8,18 +8,12 @@ use Rattle.nursery_rows.proofs.waiting.keep_others.Goals as goal
 pub loop-i-init : goal.loop-i-init
 loop-i-init c = let a = c.args in keeping_start (other (key_of a.hash)) a.n a.t.now
 
-pub keep_row-next-requires : goal.keep_row-next-requires
-keep_row-next-requires c = let l = c.loop-i in (l.invariant.fewer, omega (arith, l.invariant.size, c.requires))
-
 pub loop-i-preserved : goal.loop-i-preserved
 loop-i-preserved c =
-    let k = c.keep_row-next.ensures in
+    let k = c.keep_row-j.ensures in
     let l = c.loop-i in
     let a = c.args in
     rw (k.0, k.1) (keeping-turn (other (key_of a.hash)) a.n a.t.now c.requires l.t l.i l.j l.invariant (omega arith))
-
-pub shape_of-t : goal.shape_of-t
-shape_of-t c = c.loop-i.invariant.size
 
 pub returns : goal.returns
 returns c =

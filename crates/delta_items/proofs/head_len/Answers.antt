@@ -1,9 +1,0 @@
--- `delta_items::head_len`. By cases.
--- Assumes nothing.
-use Rattle.delta_items.proofs.head_len.Goals as goal
-
-pub returns-then-wide : goal.returns-then-wide
-returns-then-wide c = rw c.if-wide.true
-
-pub returns-else-wide : goal.returns-else-wide
-returns-else-wide c = rw c.if-wide.false
