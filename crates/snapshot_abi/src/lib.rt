@@ -13,9 +13,8 @@ use state_words::counters_of;
 pub fn selvaigo_serialized_len(state: &[u64; 16], counts: &[u64], len: &mut [u64; 1]) -> u8
     ensures { said result (len.new ∷ []) [] ≡ length_said state.now counts.now }
 {
-    let c = counters_of(state);
-    let x = snapshot_write::serialized_len(c, counts);
-    put_wrote(x, len)
+    let found = snapshot_write::serialized_len(counters_of(state), counts);
+    put_wrote(found, len)
 }
 
 // The same, where the record and the table hold a state.
@@ -23,10 +22,8 @@ pub fn selvaigo_serialized_len_held(state: &[u64; 16], counts: &[u64], len: &mut
     requires { layout.holds (counters_of state.now) counts.now ≡ true }
     ensures { said result (len.new ∷ []) [] ≡ length_said state.now counts.now }
 {
-    let c = counters_of(state);
-    let n = snapshot_write::serialized_len_held(c, counts);
-    *len = [n as u64];
-    0
+    let found = snapshot_write::serialized_len_held(counters_of(state), counts);
+    put_wrote(Ok(found), len)
 }
 
 // The snapshot of a state, written into the output.
@@ -38,9 +35,8 @@ pub fn selvaigo_serialize(
 ) -> u8
     ensures { said result (len.new ∷ []) (out.new ∷ []) ≡ serialize_said state.now counts.now out.old }
 {
-    let c = counters_of(state);
-    let x = snapshot_write::serialize(c, counts, out);
-    put_wrote(x, len)
+    let wrote = snapshot_write::serialize(counters_of(state), counts, out);
+    put_wrote(wrote, len)
 }
 
 // The same, where the record and the table hold a state.
@@ -53,7 +49,6 @@ pub fn selvaigo_serialize_held(
     requires { layout.holds (counters_of state.now) counts.now ≡ true }
     ensures { said result (len.new ∷ []) (out.new ∷ []) ≡ serialize_said state.now counts.now out.old }
 {
-    let c = counters_of(state);
-    let x = snapshot_write::serialize_held(c, counts, out);
-    put_wrote(x, len)
+    let wrote = snapshot_write::serialize_held(counters_of(state), counts, out);
+    put_wrote(wrote, len)
 }

@@ -1,17 +1,15 @@
 -- What is decided of a snapshot before anything is written: what it says, with a plan in the place of the state.
 -- Assumes nothing.
-use Rattle.std.specs.Prelude.{◌≡◌, false, List, ℕ, ◌-◌, ◌/◌, ◌≤◌, length, drop, get_or}
+use Rattle.std.specs.Prelude.{◌≡◌, false, List, ℕ, ◌-◌, ◌/◌, ◌≤◌, length, drop, get_or, Result, Ok, Err}
 use Rattle.base.specs.Logic.{any}
 use Rattle.base.specs.Answers.{Outcome, refused, taken}
+use Rattle.base.specs.declared.Refusal.{Refusal}
 use Rattle.counters.specs.Counts.{Entry, State}
 use Rattle.snapshot.specs.Read.{parse_snapshot}
 use Rattle.snapshot_tiers.specs.Payloads.{rest_after}
 use Rattle.snapshot_tiers.specs.Heads.{set_all}
-use Rattle.snapshot_lanes.specs.declared.sets.End.TheVariants.{At}
 use Rattle.snapshot_lanes.specs.Ends.{sets_end, place_or}
 use Rattle.snapshot_judge.specs.declared.decide.Plan.{Plan}
-use Rattle.snapshot_judge.specs.declared.decide.Verdict.{Verdict}
-use Rattle.snapshot_judge.specs.declared.decide.Verdict.TheVariants.{Fits, Refused}
 use Rattle.snapshot_judge.specs.Judge.{Readable, small_of, big_of, far}
 
 -- what there is to lay of a state that a snapshot says: the eight payloads from place 17 on end where the large counts start, 16 bytes each
@@ -21,11 +19,11 @@ plan_of s x =
     record { next = x.next; live = x.live; end = end; large = (length s - end) / 16; rows = length x.counts }
 
 -- the refusal that is met, or what there is to lay; it doesn't depend on the starting threshold
-abbrev pub verdict : List ℕ → Outcome State → Verdict
-verdict s (refused q) = Refused q
-verdict s (taken x) = Fits (plan_of s x)
+abbrev pub verdict : List ℕ → Outcome State → Result Plan Refusal
+verdict s (refused q) = Err q
+verdict s (taken x) = Ok (plan_of s x)
 
-unfoldable pub verdict_of : ℕ → List ℕ → Verdict
+unfoldable pub verdict_of : ℕ → List ℕ → Result Plan Refusal
 verdict_of room s = verdict s (parse_snapshot 0 room s)
 
 -- both tiers of a snapshot as one, by index
@@ -43,6 +41,6 @@ pub record Planned (s : List ℕ) (room : ℕ) (p : Plan) : Type 0 where
 pub record Reached (s : List ℕ) (end : ℕ) : Type 0 where
   pub long : 17 ≤ length s
   pub version : get_or s 0 0 ≡ 1
-  pub ends : sets_end 8 17 s ≡ At end
+  pub ends : sets_end 8 17 s ≡ Ok end
   pub rest : taken (drop end s) ≡ rest_after 8 (drop 17 s)
   pub inside : end ≤ length s

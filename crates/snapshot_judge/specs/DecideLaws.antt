@@ -1,11 +1,12 @@
 -- Each way in which a snapshot is decided before anything is written, and what is true of the verdict.
 -- Assumes nothing.
-use Rattle.std.specs.Prelude.{◌≡◌, Bool, not, ◌||◌, ℕ, ◌+◌, ◌-◌, ◌/◌, ◌%◌, ◌≤◌, ◌<◌, take, drop, get_or, eqb}
+use Rattle.std.specs.Prelude.{◌≡◌, Bool, not, ◌||◌, ℕ, ◌+◌, ◌-◌, ◌/◌, ◌%◌, ◌≤◌, ◌<◌, take, drop, get_or, eqb, Option, Some, None, Result, Ok, Err}
 use Rattle.std.proofs.Math.Path.{refl, sym, ap}
-use Rattle.std.proofs.Common.{subst, ◌∙◌, true≢false, length-drop}
+use Rattle.std.proofs.Common.{subst, ◌∙◌, length-drop}
 use Rattle.std.proofs.Math.Bool.{true, false}
 use mathlib.Core.List.{List, [], ◌∷◌}
 use native.Mathlib.Omega.{arith}
+use Rattle.std.proofs.lemmas.Option.{none-some, same_Some}
 use Rattle.std.proofs.Math.Decide.{dec_le, dec_lt, ℕ_discrete}
 use Rattle.std.proofs.Math.ListN.{length}
 use borrow.Author.Tests.{le-ltb, lt-ltb, eq-eqb, ne_eqb}
@@ -14,20 +15,15 @@ use Rattle.base.specs.Bytes.{unle, read_le}
 use Rattle.base.specs.ListLaws.{or-false}
 use Rattle.base.specs.Answers.{Outcome, refused, taken, ◌>>=◌, ◌>>◌, refuse_if, or_refuse}
 use Rattle.base.specs.declared.Refusal.{Refusal}
-use Rattle.base.specs.declared.Refusal.TheVariants.{TableFull, Version, TornSnapshot, BadBitmap, BadLarge, TierClash}
+use Rattle.base.specs.declared.Refusal.TheVariants.{TableFull, Version, TornSnapshot, BadLarge, TierClash}
 use Rattle.slices.specs.NumberLaws.{read_le-at, read_le-short}
 use Rattle.counters.specs.Counts.{Entry, State, fresh_maintenance}
 use Rattle.snapshot.specs.Read.{read_sets, read_large, joined, parse_snapshot}
 use Rattle.snapshot_judge.specs.declared.decide.Plan.{Plan}
-use Rattle.snapshot_judge.specs.declared.decide.Verdict.{Verdict}
-use Rattle.snapshot_judge.specs.declared.decide.Verdict.TheVariants.{Fits, Refused}
-use Rattle.snapshot_judge.specs.declared.judge.Judged.{Judged}
 use Rattle.snapshot_tiers.specs.Payloads.{rest_after, is_taken}
 use Rattle.snapshot_tiers.specs.PayloadLaws.{sets-read}
 use Rattle.snapshot_tiers.specs.Heads.{low, raw_of, set_all, clashes}
 use Rattle.snapshot_tiers.specs.LargeLaws.{large-read}
-use Rattle.snapshot_lanes.specs.declared.sets.End.{End}
-use Rattle.snapshot_lanes.specs.declared.sets.End.TheVariants.{At, Torn, Bad}
 use Rattle.snapshot_lanes.specs.Ends.{sets_end}
 use Rattle.snapshot_lanes.specs.EndLaws.{Ended, ended}
 use Rattle.snapshot_judge.specs.Judge.{small_of, big_of, far, judged_from}
@@ -44,16 +40,16 @@ abbrev pub state_of : ℕ → List ℕ → Plan → State
 state_of base s p = record { next = p.next; live = p.live; counts = counts_of s p.end p.large; maintenance = fresh_maintenance base }
 
 -- what a verdict says that the snapshot is
-abbrev pub outcome_of : ℕ → List ℕ → Verdict → Outcome State
-outcome_of base s (Fits p) = taken (state_of base s p)
-outcome_of base s (Refused q) = refused q
+abbrev pub outcome_of : ℕ → List ℕ → Result Plan Refusal → Outcome State
+outcome_of base s (Ok p) = taken (state_of base s p)
+outcome_of base s (Err q) = refused q
 
 -- what is true of a verdict
-abbrev pub PlanOf : List ℕ → ℕ → Verdict → Type 0
-PlanOf s room (Fits p) = Planned s room p
-PlanOf s room (Refused q) = Unit {0}
+abbrev pub PlanOf : List ℕ → ℕ → Result Plan Refusal → Type 0
+PlanOf s room (Ok p) = Planned s room p
+PlanOf s room (Err q) = Unit {0}
 
-pub record Decided (s : List ℕ) (room : ℕ) (r : Verdict) : Type 0 where
+pub record Decided (s : List ℕ) (room : ℕ) (r : Result Plan Refusal) : Type 0 where
   pub outcome : (base : ℕ) → outcome_of base s r ≡ parse_snapshot base room s
   pub plan : PlanOf s room r
 
@@ -61,32 +57,32 @@ pub reached-taken : (s : List ℕ) (end : ℕ) → Reached s end → is_taken (r
 reached-taken s end p = rw (← p.rest)
 
 -- ---- what was judged
-module _ (next : ℕ) (big small : List Entry) (j : Judged) (q : j ≡ judged_from 0 next big small) where
-  pub judged-clash : j.clash ≡ true → (clashes big small || any (far next) (set_all big small)) ≡ true
+module _ (next : ℕ) (big small : List Entry) where
+  pub judged-clash : None ≡ judged_from 0 next big small → (clashes big small || any (far next) (set_all big small)) ≡ true
   unfolding judged_from
-  judged-clash c = go (clashes big small || any (far next) (set_all big small)) q
+  judged-clash q = go (clashes big small || any (far next) (set_all big small)) q
     where
-      go : (b : Bool) → j ≡ pick b (record { clash = true; rows = 0 }) (record { clash = false; rows = 0 + length (set_all big small) }) → b ≡ true
+      go : (b : Bool) → None ≡ pick b None (Some (0 + length (set_all big small))) → b ≡ true
       go true e = refl
-      go false e = absurd (true≢false (sym c ∙ ap (λ (x : Judged). x.clash) e))
+      go false e = absurd (none-some (0 + length (set_all big small)) e)
 
-  judged-else : j.clash ≡ false → ((clashes big small || any (far next) (set_all big small)) ≡ false) × (j.rows ≡ length (set_all big small))
-  unfolding judged_from
-  judged-else c = go (clashes big small || any (far next) (set_all big small)) q
-    where
-      go : (b : Bool) → j ≡ pick b (record { clash = true; rows = 0 }) (record { clash = false; rows = 0 + length (set_all big small) })
-          → (b ≡ false) × (j.rows ≡ length (set_all big small))
-      go true e = absurd (true≢false (sym (ap (λ (x : Judged). x.clash) e) ∙ c))
-      go false e = let z : 0 + length (set_all big small) ≡ length (set_all big small) = omega arith in (refl, ap (λ (x : Judged). x.rows) e ∙ z)
+  module _ (rows : ℕ) (q : Some rows ≡ judged_from 0 next big small) where
+    judged-else : ((clashes big small || any (far next) (set_all big small)) ≡ false) × (rows ≡ length (set_all big small))
+    unfolding judged_from
+    judged-else = go (clashes big small || any (far next) (set_all big small)) q
+      where
+        go : (b : Bool) → Some rows ≡ pick b None (Some (0 + length (set_all big small))) → (b ≡ false) × (rows ≡ length (set_all big small))
+        go true e = absurd (none-some rows (sym e))
+        go false e = let z = same_Some rows (0 + length (set_all big small)) e in (refl, omega arith)
 
-  pub judged-clear : j.clash ≡ false → (clashes big small || any (far next) (set_all big small)) ≡ false
-  judged-clear c = (judged-else c).0
+    pub judged-clear : (clashes big small || any (far next) (set_all big small)) ≡ false
+    judged-clear = judged-else.0
 
-  pub judged-rows : j.clash ≡ false → j.rows ≡ length (set_all big small)
-  judged-rows c = (judged-else c).1
+    pub judged-rows : rows ≡ length (set_all big small)
+    judged-rows = judged-else.1
 
-  pub judged-below : j.clash ≡ false → any (far next) (set_all big small) ≡ false
-  judged-below c = (or-false (clashes big small) (any (far next) (set_all big small)) (judged-clear c)).1
+    pub judged-below : any (far next) (set_all big small) ≡ false
+    judged-below = (or-false (clashes big small) (any (far next) (set_all big small)) judged-clear).1
 
 -- ---- the steps of reading
 after_sets : ℕ → ℕ → ℕ → ℕ → List Entry → List ℕ → Outcome State
@@ -157,34 +153,34 @@ module _ (base room : ℕ) where
         tiers-reached : parse_snapshot base room s ≡ joined base room (next_of s) (live_of s) (small_of s 17) (big_of s end ((length s - end) / 16))
         tiers-reached = large-reached ∙ rw g
 
-        module _ (j : Judged) (q : j ≡ judged_from 0 (next_of s) (big_of s end ((length s - end) / 16)) (small_of s 17)) where
-          pub read-clash : j.clash ≡ true → refused TierClash ≡ parse_snapshot base room s
-          unfolding joined
-          read-clash c = sym (tiers-reached ∙ rw (judged-clash (next_of s) (big_of s end ((length s - end) / 16)) (small_of s 17) j q c))
+        pub read-clash : None ≡ judged_from 0 (next_of s) (big_of s end ((length s - end) / 16)) (small_of s 17) → refused TierClash ≡ parse_snapshot base room s
+        unfolding joined
+        read-clash q = sym (tiers-reached ∙ rw (judged-clash (next_of s) (big_of s end ((length s - end) / 16)) (small_of s 17) q))
 
-          pub read-full : j.clash ≡ false → room < j.rows → refused TableFull ≡ parse_snapshot base room s
+        module _ (rows : ℕ) (q : Some rows ≡ judged_from 0 (next_of s) (big_of s end ((length s - end) / 16)) (small_of s 17)) where
+          pub read-full : room < rows → refused TableFull ≡ parse_snapshot base room s
           unfolding joined
-          read-full c h =
-              let r = judged-rows (next_of s) (big_of s end ((length s - end) / 16)) (small_of s 17) j q c in
+          read-full h =
+              let r = judged-rows (next_of s) (big_of s end ((length s - end) / 16)) (small_of s 17) rows q in
               let l : room < length (counts_of s end ((length s - end) / 16)) = omega arith in
-              sym (tiers-reached ∙ rw (judged-clear (next_of s) (big_of s end ((length s - end) / 16)) (small_of s 17) j q c, lt-ltb room (length (counts_of s end ((length s - end) / 16))) l))
+              sym (tiers-reached ∙ rw (judged-clear (next_of s) (big_of s end ((length s - end) / 16)) (small_of s 17) rows q, lt-ltb room (length (counts_of s end ((length s - end) / 16))) l))
 
-          pub read_fits : j.clash ≡ false → j.rows ≤ room
+          pub read_fits : rows ≤ room
               → taken (record { next = next_of s; live = live_of s; counts = counts_of s end ((length s - end) / 16); maintenance = fresh_maintenance base }) ≡ parse_snapshot base room s
           unfolding joined
-          read_fits c h =
-              let r = judged-rows (next_of s) (big_of s end ((length s - end) / 16)) (small_of s 17) j q c in
+          read_fits h =
+              let r = judged-rows (next_of s) (big_of s end ((length s - end) / 16)) (small_of s 17) rows q in
               let l : length (counts_of s end ((length s - end) / 16)) ≤ room = omega arith in
-              sym (tiers-reached ∙ rw (judged-clear (next_of s) (big_of s end ((length s - end) / 16)) (small_of s 17) j q c, le-ltb room (length (counts_of s end ((length s - end) / 16))) l))
+              sym (tiers-reached ∙ rw (judged-clear (next_of s) (big_of s end ((length s - end) / 16)) (small_of s 17) rows q, le-ltb room (length (counts_of s end ((length s - end) / 16))) l))
 
 -- ---- the verdict
 module _ (room : ℕ) (s : List ℕ) where
-  pub verdict-refused : (q : Refusal) → refused q ≡ parse_snapshot 0 room s → Refused q ≡ verdict_of room s
+  pub verdict-refused : (q : Refusal) → refused q ≡ parse_snapshot 0 room s → Err q ≡ verdict_of room s
   unfolding verdict_of
   verdict-refused q e = ap (verdict s) e
 
   pub verdict-fits : (end : ℕ) → Reached s end → (x : State) → taken x ≡ parse_snapshot 0 room s
-      → Fits (record { next = x.next; live = x.live; end = end; large = (length s - end) / 16; rows = length x.counts }) ≡ verdict_of room s
+      → Ok (record { next = x.next; live = x.live; end = end; large = (length s - end) / 16; rows = length x.counts }) ≡ verdict_of room s
   unfolding verdict_of plan_of
   verdict-fits end p x e = rw (← e, p.ends)
 
@@ -195,34 +191,34 @@ module _ (room : ℕ) (s : List ℕ) where
     abbrev n : ℕ
     n = (length s - end) / 16
 
-    abbrev j : Judged
+    abbrev j : Option ℕ
     j = judged_from 0 (next_of s) (big_of s end n) (small_of s 17)
 
     abbrev x : ℕ → State
     x base = record { next = next_of s; live = live_of s; counts = counts_of s end n; maintenance = fresh_maintenance base }
 
     module _ (f : (length s - end) % 16 ≡ 0) (g : any low (raw_of n (drop end s)) ≡ false) where
-      fitting : j.clash ≡ false → j.rows ≤ room → Decided s room (verdict_of room s)
-      fitting e h =
-          let r = judged-rows (next_of s) (big_of s end n) (small_of s 17) j refl e in
-          subst (λ v. Decided s room v) (verdict-fits end p (x 0) (read_fits 0 room s end p f g j refl e h))
+      fitting : (rows : ℕ) → Some rows ≡ j → rows ≤ room → Decided s room (verdict_of room s)
+      fitting rows e h =
+          let r = judged-rows (next_of s) (big_of s end n) (small_of s 17) rows e in
+          subst (λ v. Decided s room v) (verdict-fits end p (x 0) (read_fits 0 room s end p f g rows e h))
           (record {
-            outcome = λ base. read_fits base room s end p f g j refl e h;
+            outcome = λ base. read_fits base room s end p f g rows e h;
             plan =
                 record {
                   readable = record { sets = reached-taken s end p; inside = omega (arith, p.inside); high = g };
                   rows = refl;
                   fits = omega arith;
-                  below = judged-below (next_of s) (big_of s end n) (small_of s 17) j refl e;
+                  below = judged-below (next_of s) (big_of s end n) (small_of s 17) rows e;
                 };
           })
 
-      tiers : (b : Bool) → j.clash ≡ b → Decided s room (verdict_of room s)
-      tiers true e = refusal TierClash (λ base. read-clash base room s end p f g j refl e)
-      tiers false e =
-          elim (dec_le j.rows room) [
-            | yes h ↦ fitting e h
-            | no h ↦ refusal TableFull (λ base. read-full base room s end p f g j refl e (omega arith))
+      tiers : (r : Option ℕ) → r ≡ j → Decided s room (verdict_of room s)
+      tiers None e = refusal TierClash (λ base. read-clash base room s end p f g e)
+      tiers (Some rows) e =
+          elim (dec_le rows room) [
+            | yes h ↦ fitting rows e h
+            | no h ↦ refusal TableFull (λ base. read-full base room s end p f g rows e (omega arith))
           ]
 
     large : Decided s room (verdict_of room s)
@@ -234,12 +230,11 @@ module _ (room : ℕ) (s : List ℕ) where
       where
         go : (length s - end) % 16 ≡ 0 → (b : Bool) → any low (raw_of n (drop end s)) ≡ b → Decided s room (verdict_of room s)
         go f true g = refusal BadLarge (λ base. read_low base room s end p f g)
-        go f false g = tiers f g j.clash refl
+        go f false g = tiers f g j refl
 
-  sets : 17 ≤ length s → get_or s 0 0 ≡ 1 → (r : End) → sets_end 8 17 s ≡ r → Ended s 17 r → Decided s room (verdict_of room s)
-  sets h v (At end) e d = large end (record { long = h; version = v; ends = e; rest = d.rest; inside = d.inside })
-  sets h v Torn e d = refusal TornSnapshot (λ base. read-refused base room s h v TornSnapshot d.rest)
-  sets h v Bad e d = refusal BadBitmap (λ base. read-refused base room s h v BadBitmap d.rest)
+  sets : 17 ≤ length s → get_or s 0 0 ≡ 1 → (r : Result ℕ Refusal) → sets_end 8 17 s ≡ r → Ended s 17 r → Decided s room (verdict_of room s)
+  sets h v (Ok end) e d = large end (record { long = h; version = v; ends = e; rest = d.rest; inside = d.inside })
+  sets h v (Err q) e d = refusal q (λ base. read-refused base room s h v q d.rest)
 
   pub decided : Decided s room (verdict_of room s)
   decided =
@@ -255,5 +250,5 @@ module _ (room : ℕ) (s : List ℕ) where
       ]
 
   -- what was decided, where it is one of the verdicts
-  pub decided-as : {v r : Verdict} → v ≡ verdict_of room s → v ≡ r → Decided s room r
+  pub decided-as : {v r : Result Plan Refusal} → v ≡ verdict_of room s → v ≡ r → Decided s room r
   decided-as e f = subst (λ x. Decided s room x) (sym e ∙ f) decided

@@ -5,7 +5,7 @@ ghost use Rattle.snapshot_judge.specs.Decide.{Reached, verdict_of};
 use crate::judge::judge;
 use base::Refusal;
 use byte_numbers::read_le64;
-use snapshot_lanes::sets::{End, sets_end};
+use snapshot_lanes::sets::sets_end;
 use snapshot_tiers::large::any_low;
 
 // What a snapshot holds: the next index, the live total, where the large counts start, how many these are, and how many counts
@@ -19,63 +19,48 @@ pub struct Plan {
     pub rows: usize,
 }
 
-#[derive(Clone, Copy)]
-pub enum Verdict {
-    Fits(Plan),
-    Refused(Refusal),
-}
-
 // The rest, where the eight payloads are bitmaps and end at `end`.
-fn decide_large(s: &[u8], end: usize, room: usize) -> Verdict
+fn decide_large(s: &[u8], end: usize, room: usize) -> Result<Plan, Refusal>
     requires { Reached s.now end }
     ensures { result ≡ verdict_of room s.now }
 {
     let left = s.len() - end;
     if left % 16 != 0 {
-        return Verdict::Refused(Refusal::BadLarge);
+        return Err(Refusal::BadLarge);
     }
     let large = left / 16;
     if any_low(s, end, large) {
-        return Verdict::Refused(Refusal::BadLarge);
+        return Err(Refusal::BadLarge);
     }
     let next = read_le64(s, 1);
     let live = read_le64(s, 9);
-    let j = judge(s, 17, end, large, next);
-    if j.clash {
-        return Verdict::Refused(Refusal::TierClash);
-    }
-    let rows = j.rows;
+    let rows = judge(s, 17, end, large, next).ok_or(Refusal::TierClash)?;
     if room < rows {
-        return Verdict::Refused(Refusal::TableFull);
+        return Err(Refusal::TableFull);
     }
-    let p = Plan {
+    Ok(Plan {
         next,
         live,
         end,
         large,
         rows,
-    };
-    Verdict::Fits(p)
+    })
 }
 
 // The refusals in their order: 8 where there is nothing, 7, then 8 to 10 as they are met, 11, 6. 25 isn't among them: the plan has
 // the live total and the rows, and a caller compares them.
-pub fn decide(s: &[u8], room: usize) -> Verdict
+pub fn decide(s: &[u8], room: usize) -> Result<Plan, Refusal>
     ensures { result ≡ verdict_of room s.now }
 {
     if s.len() == 0 {
-        return Verdict::Refused(Refusal::TornSnapshot);
+        return Err(Refusal::TornSnapshot);
     }
     if s[0] != 1 {
-        return Verdict::Refused(Refusal::Version);
+        return Err(Refusal::Version);
     }
     if s.len() < 17 {
-        return Verdict::Refused(Refusal::TornSnapshot);
+        return Err(Refusal::TornSnapshot);
     }
-    let e = sets_end(s, 17);
-    match e {
-        End::At(end) => decide_large(s, end, room),
-        End::Torn => Verdict::Refused(Refusal::TornSnapshot),
-        End::Bad => Verdict::Refused(Refusal::BadBitmap),
-    }
+    let end = sets_end(s, 17)?;
+    decide_large(s, end, room)
 }

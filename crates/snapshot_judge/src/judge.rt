@@ -7,45 +7,31 @@ use snapshot_lanes::lanes::{advance, open_all, small_head};
 use snapshot_tiers::Head;
 use snapshot_tiers::large::{large_after, large_head, sorted};
 
-// What is judged: an index is in both tiers or isn't below the next one; else how many counts there are.
-#[derive(Clone, Copy)]
-pub struct Judged {
-    pub clash: bool,
-    pub rows: usize,
-}
-
 // The lower of a small and a large count, the large one where they are at one index.
-pub fn first(a: Head, b: Head) -> Head
+pub fn first(a: Option<Head>, b: Option<Head>) -> Option<Head>
     ensures { result ≡ first_of a b }
 {
-    if !a.found {
-        return b;
+    match (a, b) {
+        (Some(x), Some(y)) if x.idx < y.idx => a,
+        (_, None) => a,
+        _ => b,
     }
-    if !b.found {
-        return a;
-    }
-    if a.idx < b.idx {
-        return a;
-    }
-    b
 }
 
 // Whether they are at one index.
-fn meets(a: Head, b: Head) -> bool
+fn meets(a: Option<Head>, b: Option<Head>) -> bool
     ensures { result ≡ meet a b }
 {
-    if !a.found {
-        return false;
+    match (a, b) {
+        (Some(x), Some(y)) => x.idx == y.idx,
+        _ => false,
     }
-    if !b.found {
-        return false;
-    }
-    a.idx == b.idx
 }
 
-// Both tiers, gone through by index: a pass over the sets, and a search for each large count. Large counts that don't come by
-// ascending index are taken too, and there each of them costs a pass over them.
-pub fn judge(s: &[u8], at: usize, end: usize, n: usize, next: u64) -> Judged
+// Both tiers, gone through by index: a pass over the sets, and a search for each large count. None where an index is in both
+// tiers or isn't below the next one; else how many counts there are. Large counts that don't come by ascending index are taken
+// too, and there each of them costs a pass over them.
+pub fn judge(s: &[u8], at: usize, end: usize, n: usize, next: u64) -> Option<usize>
     requires { Readable s.now at end n }
     ensures { result ≡ judged_from 0 next (big_of s.now end n) (small_of s.now at) }
 {
@@ -56,28 +42,16 @@ pub fn judge(s: &[u8], at: usize, end: usize, n: usize, next: u64) -> Judged
     let mut rows: usize = 0;
     loop {
         let a = small_head(lanes);
-        let f = first(a, b);
-        if !f.found {
-            return Judged { clash: false, rows };
+        let Some(f) = first(a, b) else {
+            return Some(rows);
+        };
+        if meets(a, b) || next <= f.idx {
+            return None;
         }
-        if meets(a, b) {
-            return Judged {
-                clash: true,
-                rows: 0,
-            };
-        }
-        let x = f.idx;
-        if next <= x {
-            return Judged {
-                clash: true,
-                rows: 0,
-            };
-        }
-        let moved = advance(s, lanes, x);
+        let moved = advance(s, lanes, f.idx);
         lanes = moved;
         rows += 1;
-        lo = x + 1;
-        let later = large_after(s, end, n, ascending, b, lo);
-        b = later;
+        lo = f.idx + 1;
+        b = large_after(s, end, n, ascending, b, lo);
     }
 }

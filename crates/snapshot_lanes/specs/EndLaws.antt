@@ -1,6 +1,6 @@
 -- Where the payloads end: one payload after the other, and what reading the sets makes of it.
 -- Assumes nothing.
-use Rattle.std.specs.Prelude.{◌≡◌, refl, Bool, true, false, length, take, drop}
+use Rattle.std.specs.Prelude.{◌≡◌, refl, Bool, true, false, length, take, drop, Result, Ok, Err}
 use Rattle.std.proofs.Common.{sym, ◌∙◌, true≢false}
 use Rattle.std.proofs.Math.Path.{ap}
 use Rattle.std.proofs.Math.Option.{Option, none, some}
@@ -10,27 +10,23 @@ use native.Mathlib.Omega.{arith}
 use Rattle.std.proofs.Math.Decide.{dec_le, dec_lt}
 use borrow.Author.Tests.{le-ltb, lt-ltb}
 use Rattle.std.proofs.Math.Seq.{drop-drop}
-use Rattle.base.specs.Maybe as maybe
 use Rattle.base.specs.Answers.{Outcome, refused, taken, ◌>>=◌, or_refuse}
 use Rattle.base.specs.declared.Refusal.{Refusal}
 use Rattle.base.specs.declared.Refusal.TheVariants.{TornSnapshot, BadBitmap}
 use Rattle.slices.specs.NumberLaws.{cut_at, cut_short, read_le-at, read_le-short}
 use Rattle.roaring.specs.Read.{is_some, parse64}
 use Rattle.roaring_cursor.specs.Cursor.{members_of}
-use Rattle.snapshot_lanes.specs.declared.sets.End.{End}
-use Rattle.snapshot_lanes.specs.declared.sets.End.TheVariants.{At, Torn, Bad}
 use Rattle.snapshot_tiers.specs.Payloads.{size_of, payload_of, sets_of, rest_after, is_taken}
 use Rattle.snapshot_lanes.specs.Lanes.{AtFirst}
 use Rattle.snapshot_lanes.specs.Ends.{sets_end, place_or}
 
 -- what is left at an end
-abbrev pub rest_at : List ℕ → End → Outcome (List ℕ)
-rest_at s (At e) = taken (drop e s)
-rest_at s Torn = refused TornSnapshot
-rest_at s Bad = refused BadBitmap
+abbrev pub rest_at : List ℕ → Result ℕ Refusal → Outcome (List ℕ)
+rest_at s (Ok e) = taken (drop e s)
+rest_at s (Err q) = refused q
 
 -- where they end is where reading them does
-pub record Ended (s : List ℕ) (at : ℕ) (r : End) : Type 0 where
+pub record Ended (s : List ℕ) (at : ℕ) (r : Result ℕ Refusal) : Type 0 where
   pub rest : rest_at s r ≡ rest_after 8 (drop at s)
   pub inside : place_or 0 r ≤ length s
 
@@ -88,29 +84,29 @@ rest_end s p n e = rw e
 
 -- ---- the same of where they end
 module _ (s : List ℕ) (p n : ℕ) where
-  pub end_short : 0 < n → length s < p + 8 → Torn ≡ sets_end n p s
+  pub end_short : 0 < n → length s < p + 8 → Err TornSnapshot ≡ sets_end n p s
   unfolding sets_end
   end_short h q = go n h
     where
-      go : (m : ℕ) → 0 < m → Torn ≡ sets_end m p s
+      go : (m : ℕ) → 0 < m → Err TornSnapshot ≡ sets_end m p s
       go zero g = absurd (omega arith)
       go (suc m) g = rw (lt-ltb (length s) (p + 8) q)
 
   module _ (led : p + 8 ≤ length s) (size : ℕ) (e : size ≡ size_of (drop p s)) where
-    pub end-torn : 0 < n → length s < p + 8 + size → Torn ≡ sets_end n p s
+    pub end-torn : 0 < n → length s < p + 8 + size → Err TornSnapshot ≡ sets_end n p s
     unfolding sets_end
     end-torn h q = go n h
       where
-        go : (m : ℕ) → 0 < m → Torn ≡ sets_end m p s
+        go : (m : ℕ) → 0 < m → Err TornSnapshot ≡ sets_end m p s
         go zero g = absurd (omega arith)
         go (suc m) g = rw (le-ltb (length s) (p + 8) led, ← e, lt-ltb (length s) (p + 8 + size) q)
 
     module _ (fits : p + 8 + size ≤ length s) where
-      pub end-bad : 0 < n → is_some (parse64 (take size (drop (p + 8) s))) ≡ false → Bad ≡ sets_end n p s
+      pub end-bad : 0 < n → is_some (parse64 (take size (drop (p + 8) s))) ≡ false → Err BadBitmap ≡ sets_end n p s
       unfolding sets_end
       end-bad h q = go n h
         where
-          go : (m : ℕ) → 0 < m → Bad ≡ sets_end m p s
+          go : (m : ℕ) → 0 < m → Err BadBitmap ≡ sets_end m p s
           go zero g = absurd (omega arith)
           go (suc m) g = rw (le-ltb (length s) (p + 8) led, ← e, le-ltb (length s) (p + 8 + size) fits, drop-drop 8 p s, q)
 
@@ -124,7 +120,7 @@ module _ (s : List ℕ) (p n : ℕ) where
               let z : suc m - 1 ≡ m = omega arith in
               rw (le-ltb (length s) (p + 8) led, ← e, le-ltb (length s) (p + 8 + size) fits, drop-drop 8 p s, q, z)
 
-pub end-done : (s : List ℕ) (p n : ℕ) → n ≡ 0 → At p ≡ sets_end n p s
+pub end-done : (s : List ℕ) (p n : ℕ) → n ≡ 0 → Ok p ≡ sets_end n p s
 unfolding sets_end
 end-done s p n e = rw e
 

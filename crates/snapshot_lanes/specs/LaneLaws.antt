@@ -1,6 +1,7 @@
 -- What the lanes' functions find and leave, in terms of the members left.
 -- Assumes nothing.
-use Rattle.std.specs.Prelude.{◌≡◌, Bool, ◌&&◌, length, take, drop, get_or, set, replicate}
+use Rattle.std.specs.Prelude.{◌≡◌, Bool, ◌&&◌, length, take, drop, get_or, set, replicate, Option, Some, None}
+use Rattle.std.specs.Option.{is_some, option_map}
 use Rattle.std.proofs.Math.Path.{refl, sym, ap}
 use Rattle.std.proofs.Common.{◌∙◌, true≢false, length-drop, length-set, drop-cons, drop-drop, get_or-set_same, get_or-set_other, pow_mono, le-leb, eqb-true}
 use Rattle.std.proofs.Math.Bool.{true, false}
@@ -12,24 +13,23 @@ use Rattle.std.proofs.Math.Dec.{eqb}
 use Rattle.std.proofs.lemmas.Bool.{lt-leb, eqb-false}
 use Rattle.base.specs.Logic.{pick, all, ascending_from}
 use Rattle.roaring_cursor.specs.Cursor.{Good, members_from, Stepped}
-use Rattle.roaring_cursor.specs.declared.Step.TheVariants.{Member, Done}
 use Rattle.roaring_cursor.specs.declared.Cursor.{Cursor}
 use Rattle.snapshot_tiers.specs.declared.Head.{Head}
 use Rattle.snapshot_lanes.specs.declared.lanes.Lane.{Lane}
 use Rattle.snapshot_tiers.specs.Payloads.{size_of, payload_of, sets_of}
 use Rattle.snapshot_tiers.specs.TierLaws.{bit_at, code_from}
-use Rattle.snapshot_tiers.specs.Heads.{past, no_head, lower_by, lowest}
+use Rattle.snapshot_tiers.specs.Heads.{past, no_head, head_at, idx_of, lower_by, lowest}
 use Rattle.snapshot_tiers.specs.JoinLaws.{Lowest, Small, lowest-of, code-most}
-use Rattle.snapshot_lanes.specs.Lanes.{part_of, lane_list, Open, LaneOf, AllOpen, lists_of, lowest_lane, code_lanes, small_head}
+use Rattle.snapshot_lanes.specs.Lanes.{part_of, led_by, lane_list, leads, coded, Open, LaneOf, AllOpen, lists_of, lowest_lane, code_lanes, small_head}
 
 -- ---- a step of the cursor
 module _ (s : List ℕ) (at end : ℕ) (c : Cursor) (order : at ≤ end) (inside : end ≤ length s) where
-  pub lane-member : (x : ℕ) (d : Cursor) → Stepped (take (end - at) (drop at s)) c (Member x d)
-      → LaneOf s (members_from (take (end - at) (drop at s)) c) (record { live = true; head = x; at = at; end = end; cursor = d })
+  pub lane-member : (x : ℕ) (d : Cursor) → Stepped (take (end - at) (drop at s)) c (Some (x, d))
+      → LaneOf s (members_from (take (end - at) (drop at s)) c) (record { head = Some x; at = at; end = end; cursor = d })
   lane-member x d p = record { list = sym p.members; opened = record { order = order; inside = inside; good = p.good } }
 
-  pub lane_done : Good (take (end - at) (drop at s)) c → Stepped (take (end - at) (drop at s)) c Done
-      → LaneOf s (members_from (take (end - at) (drop at s)) c) (record { live = false; head = 0; at = at; end = end; cursor = c })
+  pub lane_done : Good (take (end - at) (drop at s)) c → Stepped (take (end - at) (drop at s)) c None
+      → LaneOf s (members_from (take (end - at) (drop at s)) c) (record { head = None; at = at; end = end; cursor = c })
   lane_done g p = record { list = sym p.members; opened = record { order = order; inside = inside; good = g } }
 
 -- ---- where a lane starts
@@ -46,41 +46,39 @@ pub leads-live : (live b : Bool) → live ≡ true → b ≡ (live && b)
 leads-live live b e = rw e
 
 module _ (s : List ℕ) (l : Lane) (x : ℕ) where
-  pub past-led : (l.live && eqb l.head x) ≡ true → members_from (part_of s l) l.cursor ≡ past x (lane_list s l)
+  pub past-led : leads l.head x ≡ true → members_from (part_of s l) l.cursor ≡ past x (lane_list s l)
   unfolding past
-  past-led e = go l.live e
+  past-led e = go l.head e
     where
-      go : (a : Bool) → (a && eqb l.head x) ≡ true → members_from (part_of s l) l.cursor ≡ past x (pick a (l.head ∷ members_from (part_of s l) l.cursor) [])
-      go true q = rw q
-      go false q = absurd (true≢false (sym q))
+      go : (h : Option ℕ) → leads h x ≡ true → members_from (part_of s l) l.cursor ≡ past x (led_by h (members_from (part_of s l) l.cursor))
+      go None q = absurd (true≢false (sym q))
+      go (Some y) q = rw q
 
-  pub past-other : (l.live && eqb l.head x) ≡ false → lane_list s l ≡ past x (lane_list s l)
+  pub past-other : leads l.head x ≡ false → lane_list s l ≡ past x (lane_list s l)
   unfolding past
-  past-other e = go l.live (eqb l.head x) refl e
+  past-other e = go l.head e
     where
-      go : (a b : Bool) → eqb l.head x ≡ b → (a && b) ≡ false
-          → pick a (l.head ∷ members_from (part_of s l) l.cursor) [] ≡ past x (pick a (l.head ∷ members_from (part_of s l) l.cursor) [])
-      go true true r q = absurd (true≢false q)
-      go true false r q = rw r
-      go false b r q = refl
+      go : (h : Option ℕ) → leads h x ≡ false → led_by h (members_from (part_of s l) l.cursor) ≡ past x (led_by h (members_from (part_of s l) l.cursor))
+      go None q = refl
+      go (Some y) q = rw q
 
 -- ---- the lower first member
-module _ (live : Bool) (x : ℕ) (h : Head) where
-  pub lower-dead : live ≡ false → h ≡ lower_by live x h
-  lower-dead e = rw e
+module _ (x : ℕ) (h : Option Head) where
+  pub lower-dead : h ≡ lower_by None h
+  lower-dead = refl
 
-  pub lower-kept : live ≡ true → h.found ≡ true → h.idx ≤ x → h ≡ lower_by live x h
-  lower-kept e f g = rw (e, f, le-leb h.idx x g)
+  pub lower-kept : is_some h ≡ true → idx_of h ≤ x → h ≡ lower_by (Some x) h
+  lower-kept f g = rw (f, le-leb (idx_of h) x g)
 
-  pub lower-less : live ≡ true → x < h.idx → record { found = true; idx = x; count = 0 } ≡ lower_by live x h
-  lower-less e g = rw (e, lt-leb h.idx x g) (go h.found)
+  pub lower-less : x < idx_of h → head_at x 0 ≡ lower_by (Some x) h
+  lower-less g = rw (lt-leb (idx_of h) x g) (go (is_some h))
     where
-      go : (b : Bool) → record { found = true; idx = x; count = 0 } ≡ pick (b && false) h (record { found = true; idx = x; count = 0 })
+      go : (b : Bool) → head_at x 0 ≡ pick (b && false) h (head_at x 0)
       go true = refl
       go false = refl
 
-  pub lower-first : live ≡ true → h.found ≡ false → record { found = true; idx = x; count = 0 } ≡ lower_by live x h
-  lower-first e f = rw (e, f)
+  pub lower-first : is_some h ≡ false → head_at x 0 ≡ lower_by (Some x) h
+  lower-first f = rw f
 
 -- ---- lanes from the last to the first
 before-step : (ls : List Lane) (d : Lane) (j k : ℕ) → k ≡ suc j → j < length ls → drop j ls ≡ get_or ls j d ∷ drop k ls
@@ -90,16 +88,16 @@ module _ (ls : List Lane) (d : Lane) (k : ℕ) (p : 0 < k) (h : k ≤ length ls)
   lane-before : drop (k - 1) ls ≡ get_or ls (k - 1) d ∷ drop k ls
   lane-before = before-step ls d (k - 1) k (omega arith) (omega arith)
 
-  pub lowest-before : lower_by (get_or ls (k - 1) d).live (get_or ls (k - 1) d).head (lowest_lane (drop k ls)) ≡ lowest_lane (drop (k - 1) ls)
+  pub lowest-before : lower_by (get_or ls (k - 1) d).head (lowest_lane (drop k ls)) ≡ lowest_lane (drop (k - 1) ls)
   unfolding lowest_lane
   lowest-before = sym (ap lowest_lane lane-before)
 
-  pub code-before : (x : ℕ) → pick ((get_or ls (k - 1) d).live && eqb (get_or ls (k - 1) d).head x) (2 ^ (k - 1)) 0 + code_lanes k x (drop k ls) ≡ code_lanes (k - 1) x (drop (k - 1) ls)
+  pub code-before : (x : ℕ) → pick (leads (get_or ls (k - 1) d).head x) (2 ^ (k - 1)) 0 + code_lanes k x (drop k ls) ≡ code_lanes (k - 1) x (drop (k - 1) ls)
   unfolding code_lanes
   code-before x =
       let e : suc (k - 1) ≡ k = omega arith in
       sym (ap (code_lanes (k - 1) x) lane-before
-      ∙ ap (λ (i : ℕ). pick ((get_or ls (k - 1) d).live && eqb (get_or ls (k - 1) d).head x) (2 ^ (k - 1)) 0 + code_lanes i x (drop k ls)) e)
+      ∙ ap (λ (i : ℕ). pick (leads (get_or ls (k - 1) d).head x) (2 ^ (k - 1)) 0 + code_lanes i x (drop k ls)) e)
 
 pub bit-power : (q : Bool) (k : ℕ) → q ≡ true → k < 8 → 1 * 2 ^ k % 18446744073709551616 ≡ pick q (2 ^ k) 0
 bit-power q k e h = rw e (omega (arith, pow_mono {i = k} {j = 7} (omega arith)))
@@ -108,24 +106,24 @@ pub no-bit-power : (q : Bool) (n : ℕ) → q ≡ false → 0 ≡ pick {A = ℕ}
 no-bit-power q n e = rw e
 
 -- ---- the members left
-pub small-head : (s : List ℕ) (lo : ℕ) (ls : List Lane) (h : Head) → ((k x : ℕ) → code_lanes k x ls ≡ code_from k x (lists_of s ls)) → Lowest lo (lists_of s ls) h → (b : Bool) → h.found ≡ b
-    → Small lo (lists_of s ls) (pick b (record { found = true; idx = h.idx; count = 1 + code_lanes 0 h.idx ls }) h)
-small-head s lo ls h q l true e =
-    record {
-      none = λ f. absurd (true≢false f);
-      blank = λ f. absurd (true≢false f);
-      bound = λ f. l.bound e;
-      hit = λ f. l.hit e 0;
-      code = λ f. omega (arith, q 0 h.idx);
-      from = λ f. l.from e;
-    }
-small-head s lo ls h q l false e =
+pub small-head : (s : List ℕ) (lo : ℕ) (ls : List Lane) (h : Option Head) → ((k x : ℕ) → code_lanes k x ls ≡ code_from k x (lists_of s ls)) → Lowest lo (lists_of s ls) h
+    → Small lo (lists_of s ls) (option_map (coded ls) h)
+small-head s lo ls None q l =
     record {
       none = l.none;
       blank = λ f. l.blank f 0 [];
-      bound = λ f. absurd (true≢false (sym f ∙ e));
-      hit = λ f. absurd (true≢false (sym f ∙ e));
-      code = λ f. absurd (true≢false (sym f ∙ e));
+      bound = λ f. absurd (true≢false (sym f));
+      hit = λ f. absurd (true≢false (sym f));
+      code = λ f. absurd (true≢false (sym f));
+      from = l.from;
+    }
+small-head s lo ls (Some h) q l =
+    record {
+      none = λ f. absurd (true≢false f);
+      blank = λ f. absurd (true≢false f);
+      bound = l.bound;
+      hit = λ f. l.hit f 0;
+      code = λ f. omega (arith, q 0 h.idx);
       from = l.from;
     }
 
@@ -133,30 +131,29 @@ module _ (s : List ℕ) where
   pub lowest-lists : (ls : List Lane) → lowest_lane ls ≡ lowest (lists_of s ls)
   unfolding lowest_lane lowest
   lowest-lists [] = refl
-  lowest-lists (l ∷ ls) = go l.live (lowest-lists ls)
+  lowest-lists (l ∷ ls) = go l.head (lowest-lists ls)
     where
-      go : (b : Bool) → lowest_lane ls ≡ lowest (lists_of s ls)
-          → lower_by b l.head (lowest_lane ls) ≡ lowest (pick b (l.head ∷ members_from (part_of s l) l.cursor) [] ∷ lists_of s ls)
-      go true e = rw e
-      go false e = e
+      go : (h : Option ℕ) → lowest_lane ls ≡ lowest (lists_of s ls)
+          → lower_by h (lowest_lane ls) ≡ lowest (led_by h (members_from (part_of s l) l.cursor) ∷ lists_of s ls)
+      go None e = e
+      go (Some x) e = rw e
 
   pub code-lists : (k x : ℕ) (ls : List Lane) → code_lanes k x ls ≡ code_from k x (lists_of s ls)
   unfolding code_lanes code_from bit_at
   code-lists k x [] = refl
-  code-lists k x (l ∷ ls) = rw (code-lists (suc k) x ls) (go l.live)
+  code-lists k x (l ∷ ls) = rw (code-lists (suc k) x ls) (go l.head)
     where
-      go : (b : Bool) → pick (b && eqb l.head x) (2 ^ k) 0 + code_from (suc k) x (lists_of s ls)
-          ≡ bit_at k x (pick b (l.head ∷ members_from (part_of s l) l.cursor) []) + code_from (suc k) x (lists_of s ls)
-      go true = refl
-      go false = refl
+      go : (h : Option ℕ) → pick (leads h x) (2 ^ k) 0 + code_from (suc k) x (lists_of s ls)
+          ≡ bit_at k x (led_by h (members_from (part_of s l) l.cursor)) + code_from (suc k) x (lists_of s ls)
+      go None = refl
+      go (Some y) = refl
 
   pub small-of : (lo : ℕ) (ls : List Lane) → all (ascending_from lo) (lists_of s ls) ≡ true → Small lo (lists_of s ls) (small_head ls)
   unfolding small_head
   small-of lo ls a = go (lowest_lane ls) (lowest-lists ls)
     where
-      go : (h : Head) → h ≡ lowest (lists_of s ls)
-          → Small lo (lists_of s ls) (pick h.found (record { found = true; idx = h.idx; count = 1 + code_lanes 0 h.idx ls }) h)
-      go h e = small-head s lo ls h (λ k x. code-lists k x ls) (rw e (lowest-of lo (lists_of s ls) a)) h.found refl
+      go : (h : Option Head) → h ≡ lowest (lists_of s ls) → Small lo (lists_of s ls) (option_map (coded ls) h)
+      go h e = small-head s lo ls h (λ k x. code-lists k x ls) (rw e (lowest-of lo (lists_of s ls) a))
 
 length-lists : (s : List ℕ) (ls : List Lane) → length (lists_of s ls) ≡ length ls
 length-lists s [] = refl
@@ -184,7 +181,7 @@ pub code_below : (ls : List Lane) (x : ℕ) → length ls ≡ 8 → code_lanes 0
 code_below ls x e = let h : code_lanes 0 x ls + 2 ^ 0 ≤ 2 ^ (0 + 8) = rw e at (code-room [] 0 x ls) in omega arith
 
 pub code_fits : (ls : List Lane) (d : Lane) (k x : ℕ) → 0 < k → k ≤ 8 → length ls ≡ 8 → (b sum : ℕ)
-    → b ≡ pick ((get_or ls (k - 1) d).live && eqb (get_or ls (k - 1) d).head x) (2 ^ (k - 1)) 0 → sum ≡ code_lanes k x (drop k ls) → b + sum < 2 ^ 64
+    → b ≡ pick (leads (get_or ls (k - 1) d).head x) (2 ^ (k - 1)) 0 → sum ≡ code_lanes k x (drop k ls) → b + sum < 2 ^ 64
 code_fits ls d k x p h n b sum e f =
     let m : (k - 1) + (8 - (k - 1)) ≡ 8 = omega arith in
     let l : length (drop (k - 1) ls) ≡ 8 - (k - 1) = rw (length-drop (k - 1) ls, n) in
@@ -193,20 +190,13 @@ code_fits ls d k x p h n b sum e f =
     omega arith
 
 -- ---- the first count of the small tier
-pub small-none : (ls : List Lane) (h : Head) → h ≡ lowest_lane ls → h.found ≡ false → h ≡ small_head ls
+pub small-none : (ls : List Lane) → None ≡ lowest_lane ls → None ≡ small_head ls
 unfolding small_head
-small-none ls h e f = go (lowest_lane ls) e
-  where
-    go : (g : Head) → h ≡ g → h ≡ pick g.found (record { found = true; idx = g.idx; count = 1 + code_lanes 0 g.idx ls }) g
-    go g q = rw (← q, f)
+small-none ls e = ap (option_map (coded ls)) e
 
-pub small-some : (ls : List Lane) (h : Head) (n : ℕ) → h ≡ lowest_lane ls → h.found ≡ true → n ≡ code_lanes 0 h.idx ls
-    → record { found = true; idx = h.idx; count = 1 + n } ≡ small_head ls
+pub small-some : (ls : List Lane) (h : Head) (n : ℕ) → Some h ≡ lowest_lane ls → n ≡ code_lanes 0 h.idx ls → head_at h.idx (1 + n) ≡ small_head ls
 unfolding small_head
-small-some ls h n e f c = go (lowest_lane ls) e
-  where
-    go : (g : Head) → h ≡ g → record { found = true; idx = h.idx; count = 1 + n } ≡ pick g.found (record { found = true; idx = g.idx; count = 1 + code_lanes 0 g.idx ls }) g
-    go g q = rw (← q, f, c)
+small-some ls h n e c = rw c (ap (option_map (coded ls)) e)
 
 -- ---- lanes put in one after the other
 module _ {A B : Type 0} (f g : A → B) where

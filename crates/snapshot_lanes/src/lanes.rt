@@ -1,22 +1,21 @@
 // The eight sets of a snapshot side by side: a cursor in each, so that the small tier comes out an index at a time, in order,
 // and no room for it is lent.
-ghost use Rattle.std.specs.Prelude.{◌≡◌, true, ◌&&◌, map, ◌+◌, ◌-◌, ◌^◌, ◌≤◌, ◌<◌, length, take, drop, eqb};
+ghost use Rattle.std.specs.Prelude.{◌≡◌, true, map, ◌+◌, ◌-◌, ◌^◌, ◌≤◌, ◌<◌, length, take, drop};
 ghost use Rattle.base.specs.Logic.{pick};
 ghost use Rattle.roaring.specs.Read.{is_some, parse64};
 ghost use Rattle.roaring_cursor.specs.Cursor.{Good, members_from, members_of};
 ghost use Rattle.snapshot_tiers.specs.Payloads.{rest_after, is_taken, payload_of, size_of, sets_of};
 ghost use Rattle.snapshot_tiers.specs.Heads.{past, lower_by};
-ghost use Rattle.snapshot_lanes.specs.Lanes.{lane_list, Open, LaneOf, AllOpen, AtFirst, lowest_lane, code_lanes, small_head, Advanced, Opened};
+ghost use Rattle.snapshot_lanes.specs.Lanes.{lane_list, leads, Open, LaneOf, AllOpen, AtFirst, lowest_lane, code_lanes, small_head, Advanced, Opened};
 
 use byte_numbers::read_le64;
-use roaring_cursor::{Cursor, Step, next, start};
-use snapshot_tiers::{Head, nothing};
+use roaring_cursor::{Cursor, next, start};
+use snapshot_tiers::Head;
 
-// A set: whether it has a member left, the first one, where its bytes stand, and the cursor behind that member.
+// A set: its first member, where one is left, where its bytes stand, and the cursor behind that member.
 #[derive(Clone, Copy)]
 pub struct Lane {
-    pub live: bool,
-    pub head: u64,
+    pub head: Option<u64>,
     pub at: usize,
     pub end: usize,
     pub cursor: Cursor,
@@ -27,18 +26,15 @@ fn lane_from(s: &[u8], at: usize, end: usize, c: Cursor) -> Lane
     requires { (at ≤ end) × (end ≤ length s.now) × Good (take (end - at) (drop at s.now)) c }
     ensures { (LaneOf s.now (members_from (take (end - at) (drop at s.now)) c) result) × (result.end ≡ end) }
 {
-    let step = next(&s[at..end], c);
-    match step {
-        Step::Member(x, d) => Lane {
-            live: true,
-            head: x,
+    match next(&s[at..end], c) {
+        Some((x, d)) => Lane {
+            head: Some(x),
             at,
             end,
             cursor: d,
         },
-        Step::Done => Lane {
-            live: false,
-            head: 0,
+        None => Lane {
+            head: None,
             at,
             end,
             cursor: c,
@@ -66,12 +62,9 @@ fn open_at(s: &[u8], p: usize) -> Lane
 
 // Whether x is the first member.
 fn leads(l: Lane, x: u64) -> bool
-    ensures { result ≡ (l.live && eqb l.head x) }
+    ensures { result ≡ leads l.head x }
 {
-    if !l.live {
-        return false;
-    }
-    l.head == x
+    l.head == Some(x)
 }
 
 // The set without its first member, where that is x.
@@ -80,42 +73,33 @@ fn past_lane(s: &[u8], l: Lane, x: u64) -> Lane
     ensures { LaneOf s.now (past x (lane_list s.now l)) result }
 {
     if leads(l, x) {
-        let c = l.cursor;
-        return lane_from(s, l.at, l.end, c);
+        return lane_from(s, l.at, l.end, l.cursor);
     }
     l
 }
 
 // The lower of a set's first member and of what was found.
-fn lower(l: Lane, h: Head) -> Head
-    ensures { result ≡ lower_by l.live l.head h }
+fn lower(l: Lane, h: Option<Head>) -> Option<Head>
+    ensures { result ≡ lower_by l.head h }
 {
-    if !l.live {
+    let Some(x) = l.head else {
         return h;
-    }
-    if h.found {
-        if h.idx <= l.head {
+    };
+    if let Some(b) = h {
+        if b.idx <= x {
             return h;
         }
     }
-    Head {
-        found: true,
-        idx: l.head,
-        count: 0,
-    }
+    Some(Head { idx: x, count: 0 })
 }
 
 // The lowest first member.
-fn lowest(lanes: [Lane; 8]) -> Head
+fn lowest(lanes: [Lane; 8]) -> Option<Head>
     ensures { result ≡ lowest_lane lanes }
 {
-    let mut h = nothing();
-    let mut k = 8;
-    while 0 < k {
-        k -= 1;
-        let l = lanes[k];
-        let g = lower(l, h);
-        h = g;
+    let mut h = None;
+    for k in (0..8).rev() {
+        h = lower(lanes[k], h);
     }
     h
 }
@@ -123,7 +107,7 @@ fn lowest(lanes: [Lane; 8]) -> Head
 // The bit that set k lays at x.
 fn bit(l: Lane, k: usize, x: u64) -> u64
     requires { k < 8 }
-    ensures { result ≡ pick (l.live && eqb l.head x) (2 ^ k) 0 }
+    ensures { result ≡ pick (leads l.head x) (2 ^ k) 0 }
 {
     if leads(l, x) {
         return 1u64 << (k as u32);
@@ -136,29 +120,22 @@ fn code(lanes: [Lane; 8], x: u64) -> u64
     ensures { (result ≡ code_lanes 0 x lanes) × (result < 256) }
 {
     let mut sum: u64 = 0;
-    let mut k = 8;
-    while 0 < k {
-        k -= 1;
-        let l = lanes[k];
-        sum = bit(l, k, x) + sum;
+    for k in (0..8).rev() {
+        sum += bit(lanes[k], k, x);
     }
     sum
 }
 
 // The first count of the small tier.
-pub fn small_head(lanes: [Lane; 8]) -> Head
+pub fn small_head(lanes: [Lane; 8]) -> Option<Head>
     ensures { result ≡ small_head lanes }
 {
-    let h = lowest(lanes);
-    if !h.found {
-        return h;
-    }
+    let h = lowest(lanes)?;
     let c = code(lanes, h.idx);
-    Head {
-        found: true,
+    Some(Head {
         idx: h.idx,
         count: 1 + c,
-    }
+    })
 }
 
 // The sets past x: each without its first member, where that is x.
@@ -167,12 +144,8 @@ pub fn advance(s: &[u8], lanes: [Lane; 8], x: u64) -> [Lane; 8]
     ensures { Advanced s.now x lanes result }
 {
     let mut out = lanes;
-    let mut k = 0;
-    while k < 8 {
-        let l = out[k];
-        let m = past_lane(s, l, x);
-        out[k] = m;
-        k += 1;
+    for l in out.iter_mut() {
+        *l = past_lane(s, *l, x);
     }
     out
 }
@@ -185,12 +158,9 @@ pub fn open_all(s: &[u8], at: usize) -> [Lane; 8]
     let first = open_at(s, at);
     let mut lanes = [first; 8];
     let mut p = at;
-    let mut k = 0;
-    while k < 8 {
-        let l = open_at(s, p);
+    for l in lanes.iter_mut() {
+        *l = open_at(s, p);
         p = l.end;
-        lanes[k] = l;
-        k += 1;
     }
     lanes
 }

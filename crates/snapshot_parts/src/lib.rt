@@ -28,10 +28,8 @@ pub fn sets_len(t: &[u64], n: usize) -> usize
     ensures { result ≡ length (sets_from n t.now 0) }
 {
     let mut len = 0;
-    let mut k: u32 = 0;
-    while k < SETS {
+    for k in 0..SETS {
         len += 8 + length64(t, n, k);
-        k += 1;
     }
     len
 }
@@ -42,12 +40,10 @@ pub fn large_len(t: &[u64], n: usize) -> usize
     ensures { result ≡ length (large_from n t.now 0) }
 {
     let mut len = 0;
-    let mut i = 0;
-    while i < n {
+    for i in 0..n {
         if FIRST_LARGE <= t[i * 2 + 1] {
             len += 16;
         }
-        i += 1;
     }
     len
 }
@@ -70,10 +66,8 @@ pub fn write_sets(out: &mut [u8], at: usize, t: &[u64], n: usize) -> usize
         × (result ≡ at + length (sets_from n t.now 0)) }
 {
     let mut p = at;
-    let mut k: u32 = 0;
-    while k < SETS {
+    for k in 0..SETS {
         p = write_set(out, p, t, n, k);
-        k += 1;
     }
     p
 }
@@ -93,13 +87,11 @@ pub fn write_large(out: &mut [u8], at: usize, t: &[u64], n: usize)
     ensures { out.new ≡ put_at out.old at (large_from n t.now 0) }
 {
     let mut p = at;
-    let mut i = 0;
-    while i < n {
+    for i in 0..n {
         let count = t[i * 2 + 1];
         if FIRST_LARGE <= count {
             write_entry(out, p, t[i * 2], count);
             p += 16;
         }
-        i += 1;
     }
 }

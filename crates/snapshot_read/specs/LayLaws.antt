@@ -1,7 +1,8 @@
 -- Counts laid into a table one behind the other, and the ways of both calls.
 -- Assumes nothing.
-use Rattle.std.specs.Prelude.{◌≡◌, refl, Bool, true, List, [], ◌∷◌, ◌++◌, ℕ, zero, suc, ◌+◌, ◌-◌, ◌*◌, ◌/◌, ◌≤◌, ◌<◌, max, length, take, drop, get_or, set, leb}
-use Rattle.std.proofs.Common.{sym, ap, ◌∙◌, append-nil, arith, add-one, length-drop, take-suc, drop-cons, length-take-le}
+use Rattle.std.specs.Prelude.{◌≡◌, refl, Bool, true, List, [], ◌∷◌, ◌++◌, ℕ, zero, suc, ◌+◌, ◌-◌, ◌*◌, ◌/◌, ◌≤◌, ◌<◌, max, length, take, drop, get_or, set, leb, Option, Ok, Err}
+use Rattle.std.specs.Option.{is_some}
+use Rattle.std.proofs.Common.{sym, ap, subst, ◌∙◌, append-nil, arith, add-one, length-drop, take-suc, drop-cons, length-take-le}
 use Rattle.std.proofs.Math.Bool.{false}
 use Rattle.std.proofs.lemmas.List.{length-replicate}
 use Rattle.std.proofs.Math.Seq.{paste, drop-length, take-length}
@@ -10,7 +11,7 @@ use Rattle.base.specs.Logic.{any, flat, zeros, overlay}
 use Rattle.base.specs.ListLaws.{or-false}
 use Rattle.base.specs.declared.Refusal.{Refusal}
 use Rattle.base.specs.declared.Refusal.TheVariants.{FewCells, BadSetting}
-use Rattle.base.specs.declared.Answer.TheVariants.{Taken, Refused}
+use Rattle.base.specs.Answers.{Taken, Refused}
 use Rattle.slices.specs.Laws.{paste-start, paste-right, paste-two}
 use Rattle.rows.specs.Table.{table_of}
 use Rattle.rows.proofs.TableLaws.{rows_of-table, length-table, laid_table, inserted}
@@ -28,14 +29,13 @@ use Rattle.snapshot.specs.Read.{parse_snapshot, read_snapshot, raised}
 use Rattle.snapshot.specs.Calls.{deserialize_call, load_effect, load_call}
 use Rattle.snapshot_tiers.specs.declared.Head.{Head}
 use Rattle.snapshot_judge.specs.declared.decide.Plan.{Plan}
-use Rattle.snapshot_judge.specs.declared.decide.Verdict.TheVariants as verdicts
 use Rattle.snapshot_tiers.specs.TierLaws.{from_idx}
-use Rattle.snapshot_tiers.specs.Heads.{entry, tier_of, set_all}
+use Rattle.snapshot_tiers.specs.Heads.{entry, idx_of, count_of, tier_of, set_all}
 use Rattle.snapshot_tiers.specs.JoinLaws.{Front, rest_of}
 use Rattle.snapshot_judge.specs.Judge.{far}
 use Rattle.snapshot_judge.specs.Decide.{counts_of, Planned}
-use Rattle.snapshot_judge.specs.DecideLaws.{Decided}
-use Rattle.snapshot_read.specs.Fresh.{fresh_record, planned_state}
+use Rattle.snapshot_judge.specs.DecideLaws.{Decided, decided-as}
+use Rattle.snapshot_read.specs.Fresh.{fresh_record, planned_state, plan_under}
 
 -- ---- a row behind the others
 module _ (len : ℕ) (es : List Entry) (i n : ℕ) (room : length es * 2 + 2 ≤ len) where
@@ -85,23 +85,23 @@ any-drop next zero es a = a
 any-drop next (suc k) [] a = refl
 any-drop next (suc k) (e ∷ es) a = any-drop next k es (or-false (far next e) (any (far next) es) a).1
 
-module _ (lo : ℕ) (xss : List (List ℕ)) (big both : List Entry) (a b f : Head) (p : Front lo xss big a b f) (k : ℕ) (left : k < length both)
+module _ (lo : ℕ) (xss : List (List ℕ)) (big both : List Entry) (a b f : Option Head) (p : Front lo xss big a b f) (k : ℕ) (left : k < length both)
     (here : drop k both ≡ set_all (from_idx lo big) (tier_of xss)) where
-  pub found_left : f.found ≡ true
-  found_left = go f.found refl
+  pub found_left : is_some f ≡ true
+  found_left = go (is_some f) refl
     where
-      go : (q : Bool) → f.found ≡ q → q ≡ true
+      go : (q : Bool) → is_some f ≡ q → q ≡ true
       go true e = refl
       go false e = let z = ap length (here ∙ p.ended e) in absurd (omega (arith, length-drop k both))
 
-  pub row-left : drop k both ≡ entry f.idx f.count ∷ set_all (from_idx (f.idx + 1) big) (tier_of (rest_of f.idx xss))
-  row-left = here ∙ rw (add-one f.idx) (p.rows found_left)
+  pub row-left : drop k both ≡ entry (idx_of f) (count_of f) ∷ set_all (from_idx (idx_of f + 1) big) (tier_of (rest_of (idx_of f) xss))
+  row-left = here ∙ rw (add-one (idx_of f)) (p.rows found_left)
 
-  pub row_below : (next : ℕ) → any (far next) both ≡ false → f.idx < next
+  pub row_below : (next : ℕ) → any (far next) both ≡ false → idx_of f < next
   unfolding any
   row_below next g =
-      let q : any (far next) (entry f.idx f.count ∷ set_all (from_idx (f.idx + 1) big) (tier_of (rest_of f.idx xss))) ≡ false = rw row-left at (any-drop next k both g) in
-      leb-false next f.idx (or-false (leb next f.idx) (any (far next) (set_all (from_idx (f.idx + 1) big) (tier_of (rest_of f.idx xss)))) q).0
+      let q : any (far next) (entry (idx_of f) (count_of f) ∷ set_all (from_idx (idx_of f + 1) big) (tier_of (rest_of (idx_of f) xss))) ≡ false = rw row-left at (any-drop next k both g) in
+      leb-false next (idx_of f) (or-false (leb next (idx_of f)) (any (far next) (set_all (from_idx (idx_of f + 1) big) (tier_of (rest_of (idx_of f) xss)))) q).0
 
 -- ---- a table of any content
 pub zeros-filled : (t : List ℕ) → paste t 0 (zeros (length t)) (length t) ≡ zeros (length t)
@@ -141,7 +141,7 @@ module _ (g : ShrinkSettings) (s t : List ℕ) (bad : in_range g ≡ false) wher
   load-bad = rw (with-bad g (parse_snapshot g.base (room_of t) s) bad)
 
 module _ (g : ShrinkSettings) (s t : List ℕ) (ranged : in_range g ≡ true) where
-  module _ (q : Refusal) (d : Decided s (length t / 2) (verdicts.Refused q)) where
+  module _ (q : Refusal) (d : Decided s (length t / 2) (Err q)) where
     pub call-refused : effect (record { answer = Refused q; counters = no_counters }) t ≡ deserialize_call g s t
     unfolding deserialize_call read_snapshot laid_in laid_out
     call-refused = rw (with-ranged g (read_snapshot g.base (room_of t) s) ranged, ← d.outcome g.base)
@@ -150,7 +150,7 @@ module _ (g : ShrinkSettings) (s t : List ℕ) (ranged : in_range g ≡ true) wh
     unfolding load_call laid_in laid_out
     load-refused = rw (with-ranged g (parse_snapshot g.base (room_of t) s) ranged, ← d.outcome g.base)
 
-  module _ (p : Plan) (d : Decided s (length t / 2) (verdicts.Fits p)) where
+  module _ (p : Plan) (d : Decided s (length t / 2) (Ok p)) where
     pub call-few : p.live < p.rows → effect (record { answer = Refused FewCells; counters = no_counters }) t ≡ deserialize_call g s t
     unfolding deserialize_call read_snapshot bound laid_in laid_out
     call-few h =
@@ -168,3 +168,27 @@ module _ (g : ShrinkSettings) (s t : List ℕ) (ranged : in_range g ≡ true) wh
     load-laid h e =
         rw (with-ranged g (parse_snapshot g.base (room_of t) s) ranged, ← d.outcome g.base, ← d.plan.rows, ← h)
         (ap (λ (x : Changed). load_effect (record { answer = x.result.answer; counters = x.result.counters; old_total = p.live }) x.table) e)
+
+-- ---- what is planned under some settings
+module _ (g : ShrinkSettings) (s t : List ℕ) where
+  module _ (q : Refusal) (e : plan_under g (length t / 2) s ≡ Err q) where
+    refused-as : (b : Bool) → in_range g ≡ b → (A : Refusal → Type 0) → (in_range g ≡ false → A BadSetting)
+        → (in_range g ≡ true → Decided s (length t / 2) (Err q) → A q) → A q
+    refused-as true r A f h = h r (decided-as (length t / 2) s refl (rw r at e))
+    refused-as false r A f h = let x : BadSetting ≡ q = (let y = rw r at e in cc) in subst A x (f r)
+
+    pub plan_under-refused : effect (record { answer = Refused q; counters = no_counters }) t ≡ deserialize_call g s t
+    plan_under-refused =
+        refused-as (in_range g) refl (λ x. effect (record { answer = Refused x; counters = no_counters }) t ≡ deserialize_call g s t) (call-bad g s t) (λ r d. call-refused g s t r q d)
+
+    pub load-plan_under-refused : load_effect (record { answer = Refused q; counters = no_counters; old_total = 0 }) t ≡ load_call g s t
+    load-plan_under-refused =
+        refused-as (in_range g) refl (λ x. load_effect (record { answer = Refused x; counters = no_counters; old_total = 0 }) t ≡ load_call g s t) (load-bad g s t) (λ r d. load-refused g s t r q d)
+
+  module _ (p : Plan) (e : plan_under g (length t / 2) s ≡ Ok p) where
+    pub plan_under-fits : (in_range g ≡ true) × Decided s (length t / 2) (Ok p)
+    plan_under-fits = go (in_range g) refl
+      where
+        go : (b : Bool) → in_range g ≡ b → (in_range g ≡ true) × Decided s (length t / 2) (Ok p)
+        go true r = (r, decided-as (length t / 2) s refl (rw r at e))
+        go false r = let y = rw r at e in absurd cc

@@ -1,6 +1,7 @@
 -- The two tiers as one, an index at a time.
 -- Assumes nothing.
-use Rattle.std.specs.Prelude.{◌≡◌, Bool, true, false, ◌&&◌, ◌||◌, List, [], ◌∷◌, map, length, ltb, eqb}
+use Rattle.std.specs.Prelude.{◌≡◌, Bool, true, false, ◌&&◌, ◌||◌, List, [], ◌∷◌, map, length, ltb, eqb, Option}
+use Rattle.std.specs.Option.{is_some}
 use Rattle.std.proofs.Math.Path.{refl}
 use Rattle.std.proofs.Common.{sym, ◌∙◌, true≢false, arith}
 use Prim.Native.Nat.{ℕ, zero, suc, ◌+◌, ◌^◌, ◌≤◌, ◌<◌}
@@ -15,7 +16,7 @@ use Rattle.snapshot_tiers.specs.declared.Head.{Head}
 use Rattle.snapshot_tiers.specs.Payloads.{lay_all}
 use Rattle.snapshot_tiers.specs.TierLaws.{from_idx, Above, bit_at, code_from, with_code, set_front, set-hit, set-behind, stored-below, stored-behind, code-some, tier-step, tier-rest}
 use Rattle.snapshot.specs.Read.{lay_bit}
-use Rattle.snapshot_tiers.specs.Heads.{entry, past, tier_of, no_head, lowest, set_all, clashes, first_of, meet}
+use Rattle.snapshot_tiers.specs.Heads.{entry, past, tier_of, no_head, lowest, set_all, clashes, first_of, meet, head_at, idx_of, count_of}
 
 -- counts with the count n at x before them, where that isn't 0
 unfoldable pub with_row : ℕ → ℕ → List Entry → List Entry
@@ -97,12 +98,12 @@ code-most k x (xs ∷ xss) =
 all-lower : (lo hi : ℕ) (xss : List (List ℕ)) → lo ≤ hi → all (ascending_from hi) xss ≡ true → all (ascending_from lo) xss ≡ true
 all-lower lo hi xss h a = all_weaker (ascending_from lo) (ascending_from hi) (λ xs. ascending-lower lo hi xs h) xss a
 
-pub record Lowest (lo : ℕ) (xss : List (List ℕ)) (h : Head) : Type 0 where
-  pub none : h.found ≡ false → (x : ℕ) → all (ascending_from x) xss ≡ true
-  pub blank : h.found ≡ false → (k : ℕ) (es : List Entry) → lay_all k xss es ≡ es
-  pub bound : h.found ≡ true → all (ascending_from h.idx) xss ≡ true
-  pub hit : h.found ≡ true → (k : ℕ) → 0 < code_from k h.idx xss
-  pub from : h.found ≡ true → lo ≤ h.idx
+pub record Lowest (lo : ℕ) (xss : List (List ℕ)) (h : Option Head) : Type 0 where
+  pub none : is_some h ≡ false → (x : ℕ) → all (ascending_from x) xss ≡ true
+  pub blank : is_some h ≡ false → (k : ℕ) (es : List Entry) → lay_all k xss es ≡ es
+  pub bound : is_some h ≡ true → all (ascending_from (idx_of h)) xss ≡ true
+  pub hit : is_some h ≡ true → (k : ℕ) → 0 < code_from k (idx_of h) xss
+  pub from : is_some h ≡ true → lo ≤ idx_of h
 
 no-lowest : (lo : ℕ) → Lowest lo [] no_head
 unfolding all lay_all
@@ -115,7 +116,7 @@ no-lowest lo =
       from = λ e. absurd (true≢false (sym e));
     }
 
-past-empty : (lo : ℕ) (xss : List (List ℕ)) (h : Head) → Lowest lo xss h → Lowest lo ([] ∷ xss) h
+past-empty : (lo : ℕ) (xss : List (List ℕ)) (h : Option Head) → Lowest lo xss h → Lowest lo ([] ∷ xss) h
 unfolding all lay_all lay_bit fold ascending_from code_from bit_at
 past-empty lo xss h l =
     record {
@@ -126,8 +127,8 @@ past-empty lo xss h l =
       from = l.from;
     }
 
-module _ (lo y : ℕ) (ys : List ℕ) (xss : List (List ℕ)) (h : Head) (l : Lowest lo xss h) (a : ascending_from lo (y ∷ ys) ≡ true) where
-  same-lowest : h.found ≡ true → h.idx ≤ y → Lowest lo ((y ∷ ys) ∷ xss) h
+module _ (lo y : ℕ) (ys : List ℕ) (xss : List (List ℕ)) (h : Option Head) (l : Lowest lo xss h) (a : ascending_from lo (y ∷ ys) ≡ true) where
+  same-lowest : is_some h ≡ true → idx_of h ≤ y → Lowest lo ((y ∷ ys) ∷ xss) h
   unfolding all ascending_from code_from
   same-lowest f g =
       record {
@@ -135,13 +136,13 @@ module _ (lo y : ℕ) (ys : List ℕ) (xss : List (List ℕ)) (h : Head) (l : Lo
         blank = λ e. absurd (true≢false (sym f ∙ e));
         bound =
             λ e.
-            and_both (ascending_from h.idx (y ∷ ys)) (all (ascending_from h.idx) xss)
-            (and_both (leb h.idx y) (ascending_from (suc y) ys) (le-leb h.idx y g) (ascending-tail lo y ys a)) (l.bound e);
+            and_both (ascending_from (idx_of h) (y ∷ ys)) (all (ascending_from (idx_of h)) xss)
+            (and_both (leb (idx_of h) y) (ascending_from (suc y) ys) (le-leb (idx_of h) y g) (ascending-tail lo y ys a)) (l.bound e);
         hit = λ e k. omega (arith, l.hit e (suc k));
         from = l.from;
       }
 
-  new-lowest : all (ascending_from y) xss ≡ true → Lowest lo ((y ∷ ys) ∷ xss) (record { found = true; idx = y; count = 0 })
+  new-lowest : all (ascending_from y) xss ≡ true → Lowest lo ((y ∷ ys) ∷ xss) (head_at y 0)
   unfolding all ascending_from code_from bit_at
   new-lowest b =
       record {
@@ -160,44 +161,44 @@ unfolding all lowest ascending_from
 lowest-of lo [] a = no-lowest lo
 lowest-of lo ([] ∷ xss) a = past-empty lo xss (lowest xss) (lowest-of lo xss a)
 lowest-of lo ((y ∷ ys) ∷ xss) a =
-    go (lowest-of lo xss (and_right (ascending_from lo (y ∷ ys)) (all (ascending_from lo) xss) a)) (lowest xss).found (leb (lowest xss).idx y) refl refl
+    go (lowest-of lo xss (and_right (ascending_from lo (y ∷ ys)) (all (ascending_from lo) xss) a)) (is_some (lowest xss)) (leb (idx_of (lowest xss)) y) refl refl
   where
     p : ascending_from lo (y ∷ ys) ≡ true
     p = and_left (ascending_from lo (y ∷ ys)) (all (ascending_from lo) xss) a
 
-    go : Lowest lo xss (lowest xss) → (f b : Bool) → (lowest xss).found ≡ f → leb (lowest xss).idx y ≡ b
-        → Lowest lo ((y ∷ ys) ∷ xss) (pick (f && b) (lowest xss) (record { found = true; idx = y; count = 0 }))
-    go l true true e g = same-lowest lo y ys xss (lowest xss) l p e (leb-true (lowest xss).idx y g)
-    go l true false e g = new-lowest lo y ys xss (lowest xss) l p (all-lower y (lowest xss).idx xss (omega (arith, leb-false (lowest xss).idx y g)) (l.bound e))
+    go : Lowest lo xss (lowest xss) → (f b : Bool) → is_some (lowest xss) ≡ f → leb (idx_of (lowest xss)) y ≡ b
+        → Lowest lo ((y ∷ ys) ∷ xss) (pick (f && b) (lowest xss) (head_at y 0))
+    go l true true e g = same-lowest lo y ys xss (lowest xss) l p e (leb-true (idx_of (lowest xss)) y g)
+    go l true false e g = new-lowest lo y ys xss (lowest xss) l p (all-lower y (idx_of (lowest xss)) xss (omega (arith, leb-false (idx_of (lowest xss)) y g)) (l.bound e))
     go l false b e g = new-lowest lo y ys xss (lowest xss) l p (l.none e y)
 
 -- ---- the first count of the small tier, of the large tier from an index on, and of both
-pub record Small (lo : ℕ) (xss : List (List ℕ)) (a : Head) : Type 0 where
-  pub none : a.found ≡ false → (x : ℕ) → all (ascending_from x) xss ≡ true
-  pub blank : a.found ≡ false → tier_of xss ≡ []
-  pub bound : a.found ≡ true → all (ascending_from a.idx) xss ≡ true
-  pub hit : a.found ≡ true → 0 < code_from 0 a.idx xss
-  pub code : a.found ≡ true → a.count ≡ suc (code_from 0 a.idx xss)
-  pub from : a.found ≡ true → lo ≤ a.idx
+pub record Small (lo : ℕ) (xss : List (List ℕ)) (a : Option Head) : Type 0 where
+  pub none : is_some a ≡ false → (x : ℕ) → all (ascending_from x) xss ≡ true
+  pub blank : is_some a ≡ false → tier_of xss ≡ []
+  pub bound : is_some a ≡ true → all (ascending_from (idx_of a)) xss ≡ true
+  pub hit : is_some a ≡ true → 0 < code_from 0 (idx_of a) xss
+  pub code : is_some a ≡ true → count_of a ≡ suc (code_from 0 (idx_of a) xss)
+  pub from : is_some a ≡ true → lo ≤ idx_of a
 
-pub record Large (lo : ℕ) (big : List Entry) (b : Head) : Type 0 where
-  pub rows : from_idx lo big ≡ pick b.found (entry b.idx b.count ∷ from_idx (suc b.idx) big) []
-  pub from : b.found ≡ true → lo ≤ b.idx
-  pub two : b.found ≡ true → 2 ≤ b.count
+pub record Large (lo : ℕ) (big : List Entry) (b : Option Head) : Type 0 where
+  pub rows : from_idx lo big ≡ pick (is_some b) (entry (idx_of b) (count_of b) ∷ from_idx (suc (idx_of b)) big) []
+  pub from : is_some b ≡ true → lo ≤ idx_of b
+  pub two : is_some b ≡ true → 2 ≤ count_of b
 
 -- what is left behind an index
 abbrev pub rest_of : ℕ → List (List ℕ) → List (List ℕ)
 rest_of x xss = map (past x) xss
 
-pub record Front (lo : ℕ) (xss : List (List ℕ)) (big : List Entry) (a b f : Head) : Type 0 where
-  pub ended : f.found ≡ false → set_all (from_idx lo big) (tier_of xss) ≡ []
-  pub unclashed : f.found ≡ false → clashes (from_idx lo big) (tier_of xss) ≡ false
-  pub rows : f.found ≡ true
-      → set_all (from_idx lo big) (tier_of xss) ≡ entry f.idx f.count ∷ set_all (from_idx (suc f.idx) big) (tier_of (rest_of f.idx xss))
-  pub clash : f.found ≡ true
-      → clashes (from_idx lo big) (tier_of xss) ≡ (meet a b || clashes (from_idx (suc f.idx) big) (tier_of (rest_of f.idx xss)))
-  pub bound : f.found ≡ true → all (ascending_from f.idx) xss ≡ true
-  pub from : f.found ≡ true → lo ≤ f.idx
+pub record Front (lo : ℕ) (xss : List (List ℕ)) (big : List Entry) (a b f : Option Head) : Type 0 where
+  pub ended : is_some f ≡ false → set_all (from_idx lo big) (tier_of xss) ≡ []
+  pub unclashed : is_some f ≡ false → clashes (from_idx lo big) (tier_of xss) ≡ false
+  pub rows : is_some f ≡ true
+      → set_all (from_idx lo big) (tier_of xss) ≡ entry (idx_of f) (count_of f) ∷ set_all (from_idx (suc (idx_of f)) big) (tier_of (rest_of (idx_of f) xss))
+  pub clash : is_some f ≡ true
+      → clashes (from_idx lo big) (tier_of xss) ≡ (meet a b || clashes (from_idx (suc (idx_of f)) big) (tier_of (rest_of (idx_of f) xss)))
+  pub bound : is_some f ≡ true → all (ascending_from (idx_of f)) xss ≡ true
+  pub from : is_some f ≡ true → lo ≤ idx_of f
 
 -- large counts that start behind an index are those from there on
 from-later : (lo m : ℕ) (big : List Entry) → lo ≤ m → Above m (from_idx lo big) → from_idx m big ≡ from_idx lo big
@@ -205,27 +206,27 @@ from-later lo m big h a =
     sym (keep-narrow (λ e. leb m e.idx) (λ e. leb lo e.idx) (λ e q. le-leb lo e.idx (omega (arith, leb-true m e.idx q))) big)
     ∙ keep-whole (λ e. leb m e.idx) (λ e. leb m e.idx) (λ e q. q) (from_idx lo big) a
 
-module _ (lo : ℕ) (xss : List (List ℕ)) (big : List Entry) (a b : Head) (sm : Small lo xss a) (lg : Large lo big b) where
+module _ (lo : ℕ) (xss : List (List ℕ)) (big : List Entry) (a b : Option Head) (sm : Small lo xss a) (lg : Large lo big b) where
   -- the large count is first, or at the small one's index
-  large-front : b.found ≡ true → all (ascending_from b.idx) xss ≡ true → ltb 0 (code_from 0 b.idx xss) ≡ meet a b → Front lo xss big a b b
+  large-front : is_some b ≡ true → all (ascending_from (idx_of b)) xss ≡ true → ltb 0 (code_from 0 (idx_of b) xss) ≡ meet a b → Front lo xss big a b b
   large-front f h m =
-      let x = b.idx in
-      let r : from_idx lo big ≡ entry x b.count ∷ from_idx (suc x) big = rw f at lg.rows in
+      let x = idx_of b in
+      let r : from_idx lo big ≡ entry x (count_of b) ∷ from_idx (suc x) big = rw f at lg.rows in
       let p = all-kept (λ e. leb (suc x) e.idx) big in
       let q = tier-rest x xss h in
       record {
         ended = λ e. absurd (true≢false (sym f ∙ e));
         unclashed = λ e. absurd (true≢false (sym f ∙ e));
-        rows = λ e. rw (r, tier-step x xss h) (large-step x (from_idx (suc x) big) (tier_of (rest_of x xss)) p q b.count (code_from 0 x xss) (lg.two f));
-        clash = λ e. rw (r, tier-step x xss h, ← m) (large-clash x (from_idx (suc x) big) (tier_of (rest_of x xss)) p q b.count (code_from 0 x xss));
+        rows = λ e. rw (r, tier-step x xss h) (large-step x (from_idx (suc x) big) (tier_of (rest_of x xss)) p q (count_of b) (code_from 0 x xss) (lg.two f));
+        clash = λ e. rw (r, tier-step x xss h, ← m) (large-clash x (from_idx (suc x) big) (tier_of (rest_of x xss)) p q (count_of b) (code_from 0 x xss));
         bound = λ e. h;
         from = λ e. lg.from f;
       }
 
   -- the small count is before the large ones
-  small-front : a.found ≡ true → Above (suc a.idx) (from_idx lo big) → meet a b ≡ false → Front lo xss big a b a
+  small-front : is_some a ≡ true → Above (suc (idx_of a)) (from_idx lo big) → meet a b ≡ false → Front lo xss big a b a
   small-front f h m =
-      let x = a.idx in
+      let x = idx_of a in
       let l = sm.from f in
       let r : from_idx lo big ≡ from_idx (suc x) big = sym (from-later lo (suc x) big (omega arith) h) in
       let p = all-kept (λ e. leb (suc x) e.idx) big in
@@ -245,13 +246,13 @@ module _ (lo : ℕ) (xss : List (List ℕ)) (big : List Entry) (a b : Head) (sm 
         from = λ e. sm.from f;
       }
 
-  large-rows : b.found ≡ true → from_idx lo big ≡ entry b.idx b.count ∷ from_idx (suc b.idx) big
+  large-rows : is_some b ≡ true → from_idx lo big ≡ entry (idx_of b) (count_of b) ∷ from_idx (suc (idx_of b)) big
   large-rows f = rw f at lg.rows
 
-  large-none : b.found ≡ false → from_idx lo big ≡ []
+  large-none : is_some b ≡ false → from_idx lo big ≡ []
   large-none f = rw f at lg.rows
 
-  neither : a.found ≡ false → b.found ≡ false → Front lo xss big a b b
+  neither : is_some a ≡ false → is_some b ≡ false → Front lo xss big a b b
   unfolding fold any
   neither e f =
       record {
@@ -263,39 +264,39 @@ module _ (lo : ℕ) (xss : List (List ℕ)) (big : List Entry) (a b : Head) (sm 
         from = λ g. absurd (true≢false (sym g ∙ f));
       }
 
-  behind-large : b.found ≡ true → a.idx < b.idx → Above (suc a.idx) (from_idx lo big)
+  behind-large : is_some b ≡ true → idx_of a < idx_of b → Above (suc (idx_of a)) (from_idx lo big)
   unfolding all
   behind-large f h =
       rw (large-rows f)
-      (and_both (leb (suc a.idx) b.idx) (all (λ e. leb (suc a.idx) e.idx) (from_idx (suc b.idx) big)) (le-leb (suc a.idx) b.idx (omega arith))
-      (all_weaker (λ e. leb (suc a.idx) e.idx) (λ e. leb (suc b.idx) e.idx)
-      (λ e q. le-leb (suc a.idx) e.idx (omega (arith, leb-true (suc b.idx) e.idx q))) (from_idx (suc b.idx) big)
-      (all-kept (λ e. leb (suc b.idx) e.idx) big)))
+      (and_both (leb (suc (idx_of a)) (idx_of b)) (all (λ e. leb (suc (idx_of a)) e.idx) (from_idx (suc (idx_of b)) big)) (le-leb (suc (idx_of a)) (idx_of b) (omega arith))
+      (all_weaker (λ e. leb (suc (idx_of a)) e.idx) (λ e. leb (suc (idx_of b)) e.idx)
+      (λ e q. le-leb (suc (idx_of a)) e.idx (omega (arith, leb-true (suc (idx_of b)) e.idx q))) (from_idx (suc (idx_of b)) big)
+      (all-kept (λ e. leb (suc (idx_of b)) e.idx) big)))
 
-  behind-none : b.found ≡ false → Above (suc a.idx) (from_idx lo big)
+  behind-none : is_some b ≡ false → Above (suc (idx_of a)) (from_idx lo big)
   unfolding all
   behind-none f = rw (large-none f)
 
   -- both are there, and the large one isn't behind the small one
-  meeting : a.found ≡ true → b.found ≡ true → b.idx ≤ a.idx → ltb 0 (code_from 0 b.idx xss) ≡ meet a b
-  meeting e f h = rw (e, f) (go (eqb a.idx b.idx) refl)
+  meeting : is_some a ≡ true → is_some b ≡ true → idx_of b ≤ idx_of a → ltb 0 (code_from 0 (idx_of b) xss) ≡ meet a b
+  meeting e f h = rw (e, f) (go (eqb (idx_of a) (idx_of b)) refl)
     where
-      go : (q : Bool) → eqb a.idx b.idx ≡ q → ltb 0 (code_from 0 b.idx xss) ≡ q
-      go true g = lt-ltb 0 (code_from 0 b.idx xss) (rw (← eqb-true a.idx b.idx g) (sm.hit e))
+      go : (q : Bool) → eqb (idx_of a) (idx_of b) ≡ q → ltb 0 (code_from 0 (idx_of b) xss) ≡ q
+      go true g = lt-ltb 0 (code_from 0 (idx_of b) xss) (rw (← eqb-true (idx_of a) (idx_of b) g) (sm.hit e))
       go false g =
-          rw (code-none 0 b.idx xss (all-lower (suc b.idx) a.idx xss (omega (arith, eqb-false a.idx b.idx g)) (sm.bound e)))
+          rw (code-none 0 (idx_of b) xss (all-lower (suc (idx_of b)) (idx_of a) xss (omega (arith, eqb-false (idx_of a) (idx_of b) g)) (sm.bound e)))
 
   pub front-of : Front lo xss big a b (first_of a b)
-  front-of = go a.found b.found (ltb a.idx b.idx) refl refl refl
+  front-of = go (is_some a) (is_some b) (ltb (idx_of a) (idx_of b)) refl refl refl
     where
-      go : (u v w : Bool) → a.found ≡ u → b.found ≡ v → ltb a.idx b.idx ≡ w → Front lo xss big a b (pick (u && pick v w true) a b)
+      go : (u v w : Bool) → is_some a ≡ u → is_some b ≡ v → ltb (idx_of a) (idx_of b) ≡ w → Front lo xss big a b (pick (u && pick v w true) a b)
       go false false w e f g = neither e f
       go false true w e f g =
-          large-front f (sm.none e b.idx) (rw (e, code-none 0 b.idx xss (sm.none e (suc b.idx))))
+          large-front f (sm.none e (idx_of b)) (rw (e, code-none 0 (idx_of b) xss (sm.none e (suc (idx_of b)))))
       go true false w e f g = small-front e (behind-none f) (rw (e, f))
       go true true true e f g =
-          let h = ltb-true a.idx b.idx g in
-          small-front e (behind-large f h) (rw (e, f, ne_eqb a.idx b.idx (omega arith)))
+          let h = ltb-true (idx_of a) (idx_of b) g in
+          small-front e (behind-large f h) (rw (e, f, ne_eqb (idx_of a) (idx_of b) (omega arith)))
       go true true false e f g =
-          let h = ltb-false a.idx b.idx g in
-          large-front f (all-lower b.idx a.idx xss (omega arith) (sm.bound e)) (meeting e f (omega arith))
+          let h = ltb-false (idx_of a) (idx_of b) g in
+          large-front f (all-lower (idx_of b) (idx_of a) xss (omega arith) (sm.bound e)) (meeting e f (omega arith))

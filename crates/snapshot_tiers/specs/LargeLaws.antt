@@ -1,6 +1,7 @@
 -- The large counts: read in the order of the bytes, and the first from an index on, found by going through them.
 -- Assumes nothing.
-use Rattle.std.specs.Prelude.{◌≡◌, refl, true, false, ◌&&◌, ◌||◌, List, [], ◌∷◌, take, drop}
+use Rattle.std.specs.Prelude.{◌≡◌, refl, true, false, ◌&&◌, ◌||◌, List, [], ◌∷◌, take, drop, Option}
+use Rattle.std.specs.Option.{is_some}
 use Rattle.std.proofs.Common.{sym, ap, ◌∙◌, true≢false}
 use Rattle.std.proofs.Math.Bool.{Bool}
 use Prim.Native.Nat.{ℕ, zero, suc, ◌+◌, ◌-◌, ◌*◌, ◌≤◌, ◌<◌}
@@ -19,7 +20,7 @@ use Rattle.counters.specs.Counts.{Entry, row_of, set_count}
 use Rattle.snapshot.specs.Read.{read_large}
 use Rattle.snapshot_tiers.specs.declared.Head.{Head}
 use Rattle.snapshot_tiers.specs.TierLaws.{from_idx, Above, set-behind}
-use Rattle.snapshot_tiers.specs.Heads.{low, entry, no_head, raw_of, set_all, lower_from}
+use Rattle.snapshot_tiers.specs.Heads.{low, entry, no_head, raw_of, set_all, lower_from, head_at, idx_of, count_of}
 use Rattle.snapshot_tiers.specs.JoinLaws.{Large}
 
 pub large-read : (n : ℕ) (es : List Entry) (bs : List ℕ) → read_large n es bs ≡ (refuse_if (any low (raw_of n bs)) BadLarge >> taken (set_all (raw_of n bs) es))
@@ -64,32 +65,32 @@ module _ (i n : ℕ) (two : 2 ≤ n) (es : List Entry) where
       rw (le-leb 2 n two, keep-empty (λ e. ltb e.idx i) (λ e. leb i e.idx) (λ e q. le-ltb e.idx i (leb-true i e.idx q)) es a)
 
 -- ---- the first from an index on, after one more count is set
-module _ (lo i n : ℕ) (two : 2 ≤ n) (es : List Entry) (h : Head) (l : Large lo es h) where
-  first_rows : h.found ≡ true → from_idx lo es ≡ entry h.idx h.count ∷ from_idx (suc h.idx) es
+module _ (lo i n : ℕ) (two : 2 ≤ n) (es : List Entry) (h : Option Head) (l : Large lo es h) where
+  first_rows : is_some h ≡ true → from_idx lo es ≡ entry (idx_of h) (count_of h) ∷ from_idx (suc (idx_of h)) es
   first_rows f = rw f at l.rows
 
   -- it is not asked for
   unasked : i < lo → Large lo (set_count i n es) h
-  unasked g = record { rows = from-unset i n two es lo g ∙ l.rows ∙ go h.found refl; from = l.from; two = l.two }
+  unasked g = record { rows = from-unset i n two es lo g ∙ l.rows ∙ go (is_some h) refl; from = l.from; two = l.two }
     where
-      go : (b : Bool) → h.found ≡ b
-          → pick b (entry h.idx h.count ∷ from_idx (suc h.idx) es) [] ≡ pick b (entry h.idx h.count ∷ from_idx (suc h.idx) (set_count i n es)) []
-      go true f = rw (from-unset i n two es (suc h.idx) (omega (arith, l.from f)))
+      go : (b : Bool) → is_some h ≡ b
+          → pick b (entry (idx_of h) (count_of h) ∷ from_idx (suc (idx_of h)) es) [] ≡ pick b (entry (idx_of h) (count_of h) ∷ from_idx (suc (idx_of h)) (set_count i n es)) []
+      go true f = rw (from-unset i n two es (suc (idx_of h)) (omega (arith, l.from f)))
       go false f = refl
 
   -- it is behind the first
-  behind : lo ≤ i → h.found ≡ true → h.idx < i → Large lo (set_count i n es) h
+  behind : lo ≤ i → is_some h ≡ true → idx_of h < i → Large lo (set_count i n es) h
   behind g f b =
       record {
         rows =
             from-set i n two es lo g
-            ∙ rw (first_rows f, set-behind i n (from_idx (suc h.idx) es) (entry h.idx h.count) b, f, from-set i n two es (suc h.idx) (omega arith));
+            ∙ rw (first_rows f, set-behind i n (from_idx (suc (idx_of h)) es) (entry (idx_of h) (count_of h)) b, f, from-set i n two es (suc (idx_of h)) (omega arith));
         from = l.from;
         two = l.two;
       }
 
   -- it is the first
-  before : lo ≤ i → Above i (from_idx lo es) → Large lo (set_count i n es) (record { found = true; idx = i; count = n })
+  before : lo ≤ i → Above i (from_idx lo es) → Large lo (set_count i n es) (head_at i n)
   before g a =
       record {
         rows =
@@ -102,29 +103,29 @@ module _ (lo i n : ℕ) (two : 2 ≤ n) (es : List Entry) (h : Head) (l : Large 
         two = λ q. two;
       }
 
-  above-none : h.found ≡ false → Above i (from_idx lo es)
+  above-none : is_some h ≡ false → Above i (from_idx lo es)
   unfolding all
   above-none f = rw (l.rows, f)
 
-  above-some : h.found ≡ true → i ≤ h.idx → Above i (from_idx lo es)
+  above-some : is_some h ≡ true → i ≤ idx_of h → Above i (from_idx lo es)
   unfolding all
   above-some f g =
       rw (first_rows f)
-      (and_both (leb i h.idx) (all (λ x. leb i x.idx) (from_idx (suc h.idx) es)) (le-leb i h.idx g)
-      (all_weaker (λ x. leb i x.idx) (λ x. leb (suc h.idx) x.idx) (λ x q. le-leb i x.idx (omega (arith, leb-true (suc h.idx) x.idx q)))
-      (from_idx (suc h.idx) es) (all-kept (λ x. leb (suc h.idx) x.idx) es)))
+      (and_both (leb i (idx_of h)) (all (λ x. leb i x.idx) (from_idx (suc (idx_of h)) es)) (le-leb i (idx_of h) g)
+      (all_weaker (λ x. leb i x.idx) (λ x. leb (suc (idx_of h)) x.idx) (λ x q. le-leb i x.idx (omega (arith, leb-true (suc (idx_of h)) x.idx q)))
+      (from_idx (suc (idx_of h)) es) (all-kept (λ x. leb (suc (idx_of h)) x.idx) es)))
 
   scan_step : Large lo (set_count i n es) (lower_from lo (entry i n) h)
-  scan_step = go (ltb i lo) h.found (ltb h.idx i) refl refl refl
+  scan_step = go (ltb i lo) (is_some h) (ltb (idx_of h) i) refl refl refl
     where
-      go : (u v w : Bool) → ltb i lo ≡ u → h.found ≡ v → ltb h.idx i ≡ w
-          → Large lo (set_count i n es) (pick u h (pick (v && w) h (record { found = true; idx = i; count = n })))
+      go : (u v w : Bool) → ltb i lo ≡ u → is_some h ≡ v → ltb (idx_of h) i ≡ w
+          → Large lo (set_count i n es) (pick u h (pick (v && w) h (head_at i n)))
       go true v w p q r = unasked (ltb-true i lo p)
-      go false true true p q r = behind (ltb-false i lo p) q (ltb-true h.idx i r)
-      go false true false p q r = before (ltb-false i lo p) (above-some q (ltb-false h.idx i r))
+      go false true true p q r = behind (ltb-false i lo p) q (ltb-true (idx_of h) i r)
+      go false true false p q r = before (ltb-false i lo p) (above-some q (ltb-false (idx_of h) i r))
       go false false w p q r = before (ltb-false i lo p) (above-none q)
 
-scan-all : (lo : ℕ) (raw es : List Entry) (h : Head) → any low raw ≡ false → Large lo es h → Large lo (set_all raw es) (fold (lower_from lo) raw h)
+scan-all : (lo : ℕ) (raw es : List Entry) (h : Option Head) → any low raw ≡ false → Large lo es h → Large lo (set_all raw es) (fold (lower_from lo) raw h)
 unfolding any fold
 scan-all lo [] es h a l = l
 scan-all lo (e ∷ raw) es h a l =
@@ -158,21 +159,21 @@ pub raw-start : (s : List ℕ) (at n : ℕ) → raw_of (n - 0) (drop (at + 16 * 
 raw-start s at n = let e : n - 0 ≡ n = omega arith in let z : at + 16 * 0 ≡ at = omega arith in rw (e, z)
 
 -- ---- the lower of two
-module _ (lo i n : ℕ) (h : Head) where
+module _ (lo i n : ℕ) (h : Option Head) where
   pub from-unasked : i < lo → h ≡ lower_from lo (entry i n) h
   from-unasked g = rw (lt-ltb i lo g)
 
-  pub from-kept : lo ≤ i → h.found ≡ true → h.idx < i → h ≡ lower_from lo (entry i n) h
-  from-kept g f b = rw (le-ltb i lo g, f, lt-ltb h.idx i b)
+  pub from-kept : lo ≤ i → is_some h ≡ true → idx_of h < i → h ≡ lower_from lo (entry i n) h
+  from-kept g f b = rw (le-ltb i lo g, f, lt-ltb (idx_of h) i b)
 
-  pub from-lower : lo ≤ i → i ≤ h.idx → record { found = true; idx = i; count = n } ≡ lower_from lo (entry i n) h
-  from-lower g b = rw (le-ltb i lo g, le-ltb h.idx i b) (go h.found)
+  pub from-lower : lo ≤ i → i ≤ idx_of h → head_at i n ≡ lower_from lo (entry i n) h
+  from-lower g b = rw (le-ltb i lo g, le-ltb (idx_of h) i b) (go (is_some h))
     where
-      go : (q : Bool) → record { found = true; idx = i; count = n } ≡ pick (q && false) h (record { found = true; idx = i; count = n })
+      go : (q : Bool) → head_at i n ≡ pick (q && false) h (head_at i n)
       go true = refl
       go false = refl
 
-  pub from_first : lo ≤ i → h.found ≡ false → record { found = true; idx = i; count = n } ≡ lower_from lo (entry i n) h
+  pub from_first : lo ≤ i → is_some h ≡ false → head_at i n ≡ lower_from lo (entry i n) h
   from_first g f = rw (le-ltb i lo g, f)
 
 -- ---- tests and the lowest, a count at a time
@@ -190,12 +191,12 @@ pub low-none : (s : List ℕ) (at n i : ℕ) → n ≤ i → false ≡ any low (
 unfolding any
 low-none s at n i h = rw (raw-end s at n i h)
 
-pub scan-next : (s : List ℕ) (at n i lo : ℕ) (h : Head) → i < n
+pub scan-next : (s : List ℕ) (at n i lo : ℕ) (h : Option Head) → i < n
     → fold (lower_from lo) (raw_of (n - i) (drop (at + 16 * i) s)) h
     ≡ fold (lower_from lo) (raw_of (n - (i + 1)) (drop (at + 16 * (i + 1)) s)) (lower_from lo (entry (unle (take 8 (drop (at + 16 * i) s))) (unle (take 8 (drop (at + 16 * i + 8) s)))) h)
 unfolding fold
 scan-next s at n i lo h g = ap (λ (r : List Entry). fold (lower_from lo) r h) (raw-next s at n i g)
 
-pub scan-end : (s : List ℕ) (at n i lo : ℕ) (h : Head) → n ≤ i → h ≡ fold (lower_from lo) (raw_of (n - i) (drop (at + 16 * i) s)) h
+pub scan-end : (s : List ℕ) (at n i lo : ℕ) (h : Option Head) → n ≤ i → h ≡ fold (lower_from lo) (raw_of (n - i) (drop (at + 16 * i) s)) h
 unfolding fold
 scan-end s at n i lo h g = rw (raw-end s at n i g)

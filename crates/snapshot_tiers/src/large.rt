@@ -5,7 +5,7 @@ ghost use Rattle.base.specs.Logic.{any, fold, ascending_from};
 ghost use Rattle.rows.specs.Keys.{place};
 ghost use Rattle.snapshot_tiers.specs.Heads.{HeadTo, idxs_of, low, entry, no_head, raw_of, lower_from};
 
-use crate::{Head, nothing};
+use crate::Head;
 use byte_numbers::read_le64;
 
 // Whether one of n counts belongs to the small tier.
@@ -13,49 +13,38 @@ pub fn any_low(s: &[u8], at: usize, n: usize) -> bool
     requires { at + 16 * n ≤ length s.now }
     ensures { result ≡ any low (raw_of n (drop at s.now)) }
 {
-    let mut i = 0;
-    while i < n {
+    for i in 0..n {
         if read_le64(s, at + 16 * i + 8) < 257 {
             return true;
         }
-        i += 1;
     }
     false
 }
 
 // The lower of a count from lo on and of what was found, and the later of two at one index.
-fn lower_from(h: Head, lo: u64, idx: u64, count: u64) -> Head
+fn lower_from(h: Option<Head>, lo: u64, idx: u64, count: u64) -> Option<Head>
     ensures { result ≡ lower_from lo (entry idx count) h }
 {
     if idx < lo {
         return h;
     }
-    if h.found {
-        if h.idx < idx {
+    if let Some(b) = h {
+        if b.idx < idx {
             return h;
         }
     }
-    Head {
-        found: true,
-        idx,
-        count,
-    }
+    Some(Head { idx, count })
 }
 
 // The first of n counts from lo on, by index: a pass over all.
-fn scan(s: &[u8], at: usize, n: usize, lo: u64) -> Head
+fn scan(s: &[u8], at: usize, n: usize, lo: u64) -> Option<Head>
     requires { at + 16 * n ≤ length s.now }
     ensures { result ≡ fold (lower_from lo) (raw_of n (drop at s.now)) no_head }
 {
-    let mut h = nothing();
-    let mut i = 0;
-    while i < n {
+    let mut h = None;
+    for i in 0..n {
         let p = at + 16 * i;
-        let idx = read_le64(s, p);
-        let count = read_le64(s, p + 8);
-        let g = lower_from(h, lo, idx, count);
-        h = g;
-        i += 1;
+        h = lower_from(h, lo, read_le64(s, p), read_le64(s, p + 8));
     }
     h
 }
@@ -65,12 +54,10 @@ pub fn sorted(s: &[u8], at: usize, n: usize) -> bool
     requires { at + 16 * n ≤ length s.now }
     ensures { result ≡ ascending_from 0 (idxs_of n (drop at s.now)) }
 {
-    let mut i = 0;
-    while i + 1 < n {
-        if read_le64(s, at + 16 * (i + 1)) <= read_le64(s, at + 16 * i) {
+    for i in 1..n {
+        if read_le64(s, at + 16 * i) <= read_le64(s, at + 16 * (i - 1)) {
             return false;
         }
-        i += 1;
     }
     true
 }
@@ -94,7 +81,7 @@ fn count_below(s: &[u8], at: usize, n: usize, lo: u64) -> usize
 }
 
 // The first of n counts from lo on, by index: by halves where they come by ascending index, and else a pass over all.
-pub fn large_head(s: &[u8], at: usize, n: usize, ascending: bool, lo: u64) -> Head
+pub fn large_head(s: &[u8], at: usize, n: usize, ascending: bool, lo: u64) -> Option<Head>
     requires { (at + 16 * n ≤ length s.now) × (ascending ≡ ascending_from 0 (idxs_of n (drop at s.now))) }
     ensures { result ≡ fold (lower_from lo) (raw_of n (drop at s.now)) no_head }
 {
@@ -103,29 +90,30 @@ pub fn large_head(s: &[u8], at: usize, n: usize, ascending: bool, lo: u64) -> He
     }
     let k = count_below(s, at, n, lo);
     if n <= k {
-        return nothing();
+        return None;
     }
     let p = at + 16 * k;
-    let idx = read_le64(s, p);
-    let count = read_le64(s, p + 8);
-    Head {
-        found: true,
-        idx,
-        count,
-    }
+    Some(Head {
+        idx: read_le64(s, p),
+        count: read_le64(s, p + 8),
+    })
 }
 
 // The first large count from lo on, where b is the one from a lower place on: searched anew only where it is passed.
-pub fn large_after(s: &[u8], at: usize, n: usize, ascending: bool, b: Head, lo: u64) -> Head
+pub fn large_after(
+    s: &[u8],
+    at: usize,
+    n: usize,
+    ascending: bool,
+    b: Option<Head>,
+    lo: u64,
+) -> Option<Head>
     requires n_in_bounds { (at + 16 * n ≤ length s.now) × (ascending ≡ ascending_from 0 (idxs_of n (drop at s.now))) }
     requires head_to { HeadTo lo (raw_of n (drop at s.now)) b }
     ensures { result ≡ fold (lower_from lo) (raw_of n (drop at s.now)) no_head }
 {
-    if b.found {
-        if b.idx < lo {
-            return large_head(s, at, n, ascending, lo);
-        }
-        return b;
+    match b {
+        Some(h) if h.idx < lo => large_head(s, at, n, ascending, lo),
+        _ => b,
     }
-    b
 }

@@ -1,10 +1,8 @@
 -- What an input asks for, as the code says it.
 -- Assumes nothing.
-use Rattle.std.specs.Prelude.{ℕ}
+use Rattle.std.specs.Prelude.{ℕ, Option as CodeOption, Some, None}
 use Rattle.std.proofs.Math.Option.{Option, none, some}
-use Rattle.snapshot_worst.specs.declared.Number.{Number}
-use Rattle.snapshot_worst.specs.declared.Number.TheVariants.{Of, None}
 
-unfoldable pub number_of : Option ℕ → Number
+unfoldable pub number_of : Option ℕ → CodeOption ℕ
 number_of none = None
-number_of (some n) = Of n
+number_of (some n) = Some n

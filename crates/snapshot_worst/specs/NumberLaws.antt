@@ -1,15 +1,13 @@
 -- The steps of reading a number: the ways out, and a digit more.
 -- Assumes nothing.
-use Rattle.std.specs.Prelude.{◌≡◌, ℕ, zero, suc, ◌+◌, ◌-◌, ◌*◌, ◌≤◌, ◌<◌, take, drop, get_or}
+use Rattle.std.specs.Prelude.{◌≡◌, ℕ, suc, ◌+◌, ◌-◌, ◌*◌, ◌≤◌, ◌<◌, take, drop, get_or, Option, Some, None}
 use Rattle.std.proofs.Math.Path.{refl}
-use Rattle.std.proofs.Common.{sym, ap, ◌∙◌, arith, add-one, drop-cons, eq-eqb, ne_eqb}
+use Rattle.std.proofs.Common.{sym, ◌∙◌, arith, add-one, drop-cons, eq-eqb, ne_eqb}
 use mathlib.Core.List.{List, [], ◌∷◌}
 use Rattle.std.proofs.Math.ListN.{length}
 use Rattle.std.proofs.Math.Seq.{drop-length}
 use Rattle.snapshot_bound.specs.Asked.{unended, most, spelled, asked}
 use Rattle.snapshot_bound.specs.AskedLaws.{unended-prefix, unended-length, spelled-digit, spelled-below, spelled-above, spelled-large, spelled-end, asked-spelled, asked-none, asked-long}
-use Rattle.snapshot_worst.specs.declared.Number.{Number}
-use Rattle.snapshot_worst.specs.declared.Number.TheVariants.{Of, None}
 use Rattle.snapshot_worst.specs.Number.{number_of}
 
 -- ---- a line feed at the end
@@ -49,7 +47,7 @@ module _ (s : List ℕ) (n i b : ℕ) (more : i < length s) (here : b ≡ get_or
   unfolding number_of
   digit-large h g l = rw (digit-next h g, spelled-large (10 * n + (b - 48)) (drop (i + 1) s) l)
 
-pub number-end : (s : List ℕ) (n i : ℕ) → i ≡ length s → n ≤ most → spelled 0 s ≡ spelled n (drop i s) → Of n ≡ number_of (spelled 0 s)
+pub number-end : (s : List ℕ) (n i : ℕ) → i ≡ length s → n ≤ most → spelled 0 s ≡ spelled n (drop i s) → Some n ≡ number_of (spelled 0 s)
 unfolding number_of
 number-end s n i h l e = rw (e, h, drop-length s, spelled-end n l)
 
@@ -63,7 +61,7 @@ module _ (s : List ℕ) (len : ℕ) (ended : len ≡ length (unended s)) where
   unfolding number_of
   four-digits h = rw (asked-long s (omega arith))
 
-  pub digits-read : (r : Number) → 0 < len → len ≤ 3 → r ≡ number_of (spelled 0 (take len s)) → r ≡ number_of (asked s)
+  pub digits-read : (r : Option ℕ) → 0 < len → len ≤ 3 → r ≡ number_of (spelled 0 (take len s)) → r ≡ number_of (asked s)
   digits-read r h g e =
       let p : take len s ≡ unended s = rw ended (unended-prefix s) in
       e ∙ rw (p, asked-spelled s (omega arith) (omega arith))

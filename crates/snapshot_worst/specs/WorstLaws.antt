@@ -1,13 +1,12 @@
 -- The worst counters: their table row after row, their record, and their snapshot in an output.
 -- Assumes nothing.
-use Rattle.std.specs.Prelude.{◌≡◌, refl, List, [], ◌∷◌, ◌++◌, map, ℕ, zero, suc, ◌+◌, ◌-◌, ◌*◌, ◌^◌, ◌≤◌, ◌<◌, length, set}
-use Rattle.std.proofs.Common.{sym, ap, ◌∙◌, arith}
+use Rattle.std.specs.Prelude.{◌≡◌, refl, List, map, ℕ, zero, suc, ◌+◌, ◌-◌, ◌*◌, ◌≤◌, ◌<◌, length, set}
+use Rattle.std.proofs.Common.{◌∙◌, arith}
 use Rattle.std.proofs.lemmas.List.{map-append, length-map}
 use Rattle.base.specs.Logic.{from, zeros, flat}
 use Rattle.base.specs.ListLaws.{length_from, from-append}
 use Rattle.rows.specs.Table as rows
 use Rattle.counters.specs.Counts.{Entry, fresh_maintenance}
-use Rattle.counters.specs.declared.Counters.{Counters}
 use Rattle.counters.specs.Maintenance.{standard}
 use Rattle.counters.specs.Layout.{count_row, record_of, table_of}
 use Rattle.counters.proofs.RowLaws.{row-behind}

@@ -4,7 +4,7 @@
 ghost use Rattle.std.specs.Prelude.{◌≡◌, ◌*◌, ◌≤◌, length};
 ghost use Rattle.base.specs.Logic.{zeros};
 ghost use Rattle.base.specs.Answers.{taken};
-ghost use Rattle.base.specs.Output.{effect, written};
+ghost use Rattle.base.specs.Output.{as_wrote, effect, written};
 ghost use Rattle.counters.specs.Maintenance.{standard};
 ghost use Rattle.counters.specs.Layout.{record_of, table_of};
 ghost use Rattle.snapshot.specs.Write.{snapshot_bytes};
@@ -12,19 +12,12 @@ ghost use Rattle.snapshot_bound.specs.Bound.{worst};
 ghost use Rattle.snapshot_bound.specs.Asked.{unended, spelled, asked, answered};
 ghost use Rattle.snapshot_worst.specs.Number.{number_of};
 
-use base::{Answer, Wrote};
+use base::Refusal;
 use counters::{CounterMaintenance, Counters, NextIdx, ShrinkSettings};
 use snapshot_write::serialize_held;
 
 // The most stored counts that may be asked for.
 const MOST: usize = 200;
-
-// What an input asks for: a number of stored counts, or nothing.
-#[derive(Clone, Copy)]
-pub enum Number {
-    Of(usize),
-    None,
-}
 
 // How many bytes there are without a line feed at their end.
 fn unended_len(s: &[u8]) -> usize
@@ -40,45 +33,30 @@ fn unended_len(s: &[u8]) -> usize
     len
 }
 
-fn wide(b: u8) -> usize
-    ensures { (result ≡ b) × (result ≤ 255) }
-{
-    b as usize
-}
-
 // The number that bytes spell, where all are digits and it is not too large.
-fn spelled_number(s: &[u8]) -> Number
+fn spelled_number(s: &[u8]) -> Option<usize>
     ensures { result ≡ number_of (spelled 0 s.now) }
 {
-    let mut n: usize = 0;
-    let mut i = 0;
-    while i < s.len() {
-        let b = wide(s[i]);
-        if b < 48 {
-            return Number::None;
+    let mut n = 0;
+    for b in s {
+        if !b.is_ascii_digit() {
+            return None;
         }
-        if 57 < b {
-            return Number::None;
-        }
-        n = 10 * n + (b - 48);
+        n = 10 * n + usize::from(*b - b'0');
         if MOST < n {
-            return Number::None;
+            return None;
         }
-        i += 1;
     }
-    Number::Of(n)
+    Some(n)
 }
 
 // What an input asks for: one to three digits, with at most one line feed behind them.
-pub fn read_number(s: &[u8]) -> Number
+pub fn read_number(s: &[u8]) -> Option<usize>
     ensures { result ≡ number_of (asked s.now) }
 {
     let len = unended_len(s);
-    if len == 0 {
-        return Number::None;
-    }
-    if 3 < len {
-        return Number::None;
+    if len == 0 || 3 < len {
+        return None;
     }
     spelled_number(&s[..len])
 }
@@ -88,11 +66,9 @@ fn lay_worst(t: &mut [u64], n: usize)
     requires { (n ≤ 200) × (n * 2 ≤ length t.old) × (t.old ≡ zeros (length t.old)) }
     ensures { t.new ≡ table_of (length t.old) (worst n) }
 {
-    let mut k = 0;
-    while k < n {
+    for k in 0..n {
         t[k * 2] = k as u64 * 0x1_0000_0000;
         t[k * 2 + 1] = 256;
-        k += 1;
     }
 }
 
@@ -123,9 +99,9 @@ fn worst_record(n: usize) -> Counters
 }
 
 // The longest snapshot of n stored counts goes into an output.
-fn write_worst(n: usize, out: &mut [u8]) -> Wrote
+fn write_worst(n: usize, out: &mut [u8]) -> Result<usize, Refusal>
     requires { n ≤ 200 }
-    ensures { effect result out.new ≡ written out.old (taken (snapshot_bytes (worst n))) }
+    ensures { effect (as_wrote result) out.new ≡ written out.old (taken (snapshot_bytes (worst n))) }
 {
     let mut t = [0u64; 400];
     lay_worst(&mut t, n);
@@ -133,14 +109,11 @@ fn write_worst(n: usize, out: &mut [u8]) -> Wrote
 }
 
 // The longest snapshot of as many stored counts as the input asks for, or nothing, goes into an output.
-pub fn answer(input: &[u8], out: &mut [u8]) -> Wrote
-    ensures { effect result out.new ≡ written out.old (taken (answered input.now)) }
+pub fn answer(input: &[u8], out: &mut [u8]) -> Result<usize, Refusal>
+    ensures { effect (as_wrote result) out.new ≡ written out.old (taken (answered input.now)) }
 {
-    let Number::Of(n) = read_number(input) else {
-        return Wrote {
-            answer: Answer::Taken,
-            len: 0,
-        };
-    };
-    write_worst(n, out)
+    match read_number(input) {
+        Some(n) => write_worst(n, out),
+        None => Ok(0),
+    }
 }

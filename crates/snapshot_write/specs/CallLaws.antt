@@ -3,7 +3,7 @@
 use Rattle.std.specs.Prelude.{◌≡◌, refl, true, false, List, ℕ, ◌≤◌, ◌<◌, length}
 use borrow.Author.Tests.{lt-ltb, le-ltb}
 use Rattle.base.specs.Output.{effect, fitting, put, written}
-use Rattle.base.specs.declared.Answer.TheVariants.{Taken, Refused}
+use Rattle.base.specs.Answers.{Taken, Refused}
 use Rattle.base.specs.declared.Refusal.TheVariants.{OutputFull, Broken}
 use Rattle.slices.specs.Laws.{paste-start}
 use Rattle.slices.specs.Places.{put_at}

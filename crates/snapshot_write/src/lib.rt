@@ -4,14 +4,14 @@
 #![tactic(auto)]
 
 ghost use Rattle.std.specs.Prelude.{◌≡◌, true, ◌≤◌, length};
-ghost use Rattle.base.specs.Output.{effect};
+ghost use Rattle.base.specs.Output.{as_wrote, effect};
 ghost use Rattle.slices.specs.Places.{put_at};
 ghost use Rattle.counters.specs.Layout.{state_of};
 ghost use Rattle.counters.specs.Layout as layout;
 ghost use Rattle.snapshot.specs.Write.{snapshot_bytes};
 ghost use Rattle.snapshot.specs.Calls.{serialize_call, length_call};
 
-use base::{Answer, Refusal, Wrote};
+use base::Refusal;
 use byte_numbers::write_le64;
 use counter_rows::holds;
 use counters::Counters;
@@ -30,19 +30,13 @@ pub fn serialized_len_held(c: Counters, t: &[u64]) -> usize
 }
 
 // How many bytes the snapshot takes.
-pub fn serialized_len(c: Counters, t: &[u64]) -> Wrote
-    ensures { result ≡ length_call c t.now }
+pub fn serialized_len(c: Counters, t: &[u64]) -> Result<usize, Refusal>
+    ensures { as_wrote result ≡ length_call c t.now }
 {
     if !holds(c, t) {
-        return Wrote {
-            answer: Answer::Refused(Refusal::Broken),
-            len: 0,
-        };
+        return Err(Refusal::Broken);
     }
-    Wrote {
-        answer: Answer::Taken,
-        len: serialized_len_held(c, t),
-    }
+    Ok(serialized_len_held(c, t))
 }
 
 // The snapshot goes into the start of an output that has room for it.
@@ -59,33 +53,24 @@ fn write_snapshot(out: &mut [u8], c: Counters, t: &[u64])
 }
 
 // Writes the snapshot, where the record and the table hold a state.
-pub fn serialize_held(c: Counters, t: &[u64], out: &mut [u8]) -> Wrote
+pub fn serialize_held(c: Counters, t: &[u64], out: &mut [u8]) -> Result<usize, Refusal>
     requires { layout.holds c t.now ≡ true }
-    ensures { effect result out.new ≡ serialize_call c t.now out.old }
+    ensures { effect (as_wrote result) out.new ≡ serialize_call c t.now out.old }
 {
     let len = serialized_len_held(c, t);
     if out.len() < len {
-        return Wrote {
-            answer: Answer::Refused(Refusal::OutputFull),
-            len: 0,
-        };
+        return Err(Refusal::OutputFull);
     }
     write_snapshot(out, c, t);
-    Wrote {
-        answer: Answer::Taken,
-        len,
-    }
+    Ok(len)
 }
 
 // Writes the snapshot. Nothing beyond it is touched, and nothing at all beside a refusal.
-pub fn serialize(c: Counters, t: &[u64], out: &mut [u8]) -> Wrote
-    ensures { effect result out.new ≡ serialize_call c t.now out.old }
+pub fn serialize(c: Counters, t: &[u64], out: &mut [u8]) -> Result<usize, Refusal>
+    ensures { effect (as_wrote result) out.new ≡ serialize_call c t.now out.old }
 {
     if !holds(c, t) {
-        return Wrote {
-            answer: Answer::Refused(Refusal::Broken),
-            len: 0,
-        };
+        return Err(Refusal::Broken);
     }
     serialize_held(c, t, out)
 }

@@ -6,9 +6,6 @@ use Rattle.snapshot_parts.specs.PartLaws.{large-length, large-skip, large-end}
 use Rattle.snapshot_parts.proofs.large_len.Goals as goal
 use Rattle.snapshot_parts.proofs.large_len.Goals.{else-t-i-ge-FIRST_LARGE, then-t-i-ge-FIRST_LARGE}
 
-pub loop-i-init : goal.loop-i-init
-loop-i-init c = (omega arith, omega arith)
-
 pub overflow_add-len : goal.overflow_add-len
 overflow_add-len c =
     let l = c.loop-i in
@@ -19,7 +16,7 @@ pub loop-i-preserved : goal.loop-i-preserved
 loop-i-preserved c =
     let l = c.loop-i in
     let a = c.args in
-    elim c.if-t-i-ge-FIRST_LARGE.branch [ then-t-i-ge-FIRST_LARGE w ↦ (omega arith, omega (arith, large-length a.n a.t.now l.i (omega arith) (omega (arith, w.if-t-i-ge-FIRST_LARGE.true)))) | else-t-i-ge-FIRST_LARGE w ↦ (omega arith, omega (arith, ap length (large-skip a.n a.t.now l.i (omega arith) (omega (arith, w.if-t-i-ge-FIRST_LARGE.false))))) ]
+    elim c.if-t-i-ge-FIRST_LARGE.branch [ then-t-i-ge-FIRST_LARGE w ↦ omega (arith, large-length a.n a.t.now l.i (omega arith) (omega (arith, w.if-t-i-ge-FIRST_LARGE.true))) | else-t-i-ge-FIRST_LARGE w ↦ omega (arith, ap length (large-skip a.n a.t.now l.i (omega arith) (omega (arith, w.if-t-i-ge-FIRST_LARGE.false)))) ]
 
 pub returns : goal.returns
 returns c =

@@ -5,9 +5,6 @@ use lib.ListN.{length}
 use Rattle.snapshot_parts.specs.PartLaws.{length-set, sets-length, sets-end}
 use Rattle.snapshot_parts.proofs.sets_len.Goals as goal
 
-pub loop-k-init : goal.loop-k-init
-loop-k-init c = (omega arith, omega arith)
-
 pub length64-requires : goal.length64-requires
 length64-requires c = (omega (arith, c.requires.0.laid.fits), c.requires.0.ascends)
 
@@ -23,17 +20,11 @@ overflow_add-len-in-loop-k c =
     let a = c.args in
     omega (arith, c.length64.ensures, length-set a.n a.t.now l.k, sets-length a.n a.t.now l.k (omega arith), c.requires.1)
 
-pub overflow_add-k : goal.overflow_add-k
-overflow_add-k c = omega arith
-
-pub loop-k-smaller : goal.loop-k-smaller
-loop-k-smaller c = omega arith
-
 pub loop-k-preserved : goal.loop-k-preserved
 loop-k-preserved c =
     let l = c.loop-k in
     let a = c.args in
-    (omega arith, omega (arith, c.length64.ensures, length-set a.n a.t.now l.k, sets-length a.n a.t.now l.k (omega arith)))
+    omega (arith, c.length64.ensures, length-set a.n a.t.now l.k, sets-length a.n a.t.now l.k (omega arith))
 
 pub returns : goal.returns
 returns c =

@@ -1,13 +1,10 @@
 -- `snapshot_parts::sets_len`. The invariant: what is counted and what the sets from set k on take are together what all take.
 -- Assumes nothing.
 use mathlib.Core.Path.{◌≡◌}
-use Prim.Native.Nat.{◌+◌, ◌-◌, ◌≤◌}
+use Prim.Native.Nat.{◌+◌}
 use lib.ListN.{length}
 use Rattle.snapshot_parts.specs.Parts.{sets_from}
 use Rattle.snapshot_parts.proofs.sets_len.Given as goal
 
 abbrev pub invariant-loop-k : goal.invariant-loop-k
-invariant-loop-k l = (l.k ≤ 8) × (l.len + length (sets_from l.n l.t l.k) ≡ length (sets_from l.n l.t 0))
-
-abbrev pub decreases-loop-k : goal.decreases-loop-k
-decreases-loop-k l = 8 - l.k
+invariant-loop-k l = l.len + length (sets_from l.n l.t l.k) ≡ length (sets_from l.n l.t 0)

@@ -1,37 +1,26 @@
 use mathlib.Core.Path.{sym, ◌∙◌}
-use Prim.Native.Nat.{◌/◌}
 use native.Mathlib.Omega.{arith}
-use lib.ListN.{length}
-use Rattle.snapshot_judge.specs.DecideLaws.{decided-as}
-use Rattle.snapshot_read.specs.LayLaws.{call-bad, call-refused, call-few, call-laid}
+use Rattle.std.proofs.lemmas.Result.{err_from_is_err_and}
+use Rattle.snapshot_read.specs.LayLaws.{call-few, call-laid, plan_under-refused, plan_under-fits}
 use Rattle.snapshot_read.proofs.deserialize_trusted.Goals as goal
 
-pub returns-then-not-in_range : goal.returns-then-not-in_range
-returns-then-not-in_range c =
+pub returns-in_err-p : goal.returns-in_err-p
+returns-in_err-p c =
     let a = c.args in
-    rw c.refused.ensures (call-bad a.settings a.s.now a.t.now (sym c.in_range.ensures ∙ c.if-not-in_range.true))
+    let p = err_from_is_err_and c.from_residual.result c.from_residual.ensures.1 in
+    rw (p.1, p.2) (plan_under-refused a.settings a.s.now a.t.now c.in_err-p.field-0.0 (sym c.plan_under.ensures ∙ c.in_err-p.was))
 
-pub returns-then-live-p : goal.returns-then-live-p
-returns-then-live-p c =
+pub returns : goal.returns
+returns c =
     let a = c.args in
-    let x = c.in-Fits in
-    rw c.refused-then-live-p.ensures
-    (call-few a.settings a.s.now a.t.now (sym c.in_range.ensures ∙ c.if-not-in_range.false) x.p (decided-as (length a.t.now / 2) a.s.now c.decide-v.ensures x.is) (omega arith))
+    let f = plan_under-fits a.settings a.s.now a.t.now c.in_ok-p.p (sym c.plan_under.ensures ∙ c.in_ok-p.was) in
+    call-laid a.settings a.s.now a.t.now f.0 c.in_ok-p.p f.1 (omega arith) c.laid_in.ensures
 
-pub laid_in-counters-requires : goal.laid_in-counters-requires
-laid_in-counters-requires c =
-    let a = c.args in
-    (decided-as (length a.t.now / 2) a.s.now c.decide-v.ensures c.in-Fits.is).plan
+pub laid_in-requires : goal.laid_in-requires
+laid_in-requires c = (plan_under-fits c.args.settings c.args.s.now c.args.t.now c.in_ok-p.p (sym c.plan_under.ensures ∙ c.in_ok-p.was)).1.plan
 
-pub returns-in-Refused : goal.returns-in-Refused
-returns-in-Refused c =
+pub returns-then-p : goal.returns-then-p
+returns-then-p c =
     let a = c.args in
-    let x = c.in-Refused in
-    rw c.refused-in-Refused.ensures
-    (call-refused a.settings a.s.now a.t.now (sym c.in_range.ensures ∙ c.if-not-in_range.false) x.q (decided-as (length a.t.now / 2) a.s.now c.decide-v.ensures x.is))
-
-pub returns-else-live-p : goal.returns-else-live-p
-returns-else-live-p c =
-    let a = c.args in
-    let x = c.in-Fits in
-    call-laid a.settings a.s.now a.t.now (sym c.in_range.ensures ∙ c.if-not-in_range.false) x.p (decided-as (length a.t.now / 2) a.s.now c.decide-v.ensures x.is) (omega arith) c.laid_in-counters.ensures
+    let f = plan_under-fits a.settings a.s.now a.t.now c.in_ok-p.p (sym c.plan_under.ensures ∙ c.in_ok-p.was) in
+    call-few a.settings a.s.now a.t.now f.0 c.in_ok-p.p f.1 (omega arith)

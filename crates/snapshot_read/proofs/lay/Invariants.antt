@@ -8,16 +8,12 @@ use Rattle.snapshot_judge.specs.Judge.{big_of}
 use Rattle.snapshot_judge.specs.Decide.{counts_of}
 use mathlib.Core.Path.{◌≡◌}
 use mathlib.Core.Bool.{true}
-use Prim.Native.Nat.{◌-◌, ◌≤◌}
 use lib.ListN.{length, take, drop}
 use Rattle.snapshot_read.proofs.lay.Given as goal
 
 abbrev pub invariant-loop-k : goal.invariant-loop-k
 invariant-loop-k l =
-    (l.k ≤ l.rows) × (length l.t ≡ length l.initial.t) × AllOpen l.s l.lanes × (all (ascending_from l.lo) (lists_of l.s l.lanes) ≡ true)
+    (length l.t ≡ length l.initial.t) × AllOpen l.s l.lanes × (all (ascending_from l.lo) (lists_of l.s l.lanes) ≡ true)
     × (l.t ≡ table_of count_row (length l.initial.t) (take l.k (counts_of l.s l.p.end l.p.large)))
     × (drop l.k (counts_of l.s l.p.end l.p.large) ≡ set_all (from_idx l.lo (big_of l.s l.p.end l.p.large)) (tier_of (lists_of l.s l.lanes)))
     × (l.b ≡ fold (lower_from l.lo) (raw_of l.p.large (drop l.p.end l.s)) no_head)
-
-abbrev pub decreases-loop-k : goal.decreases-loop-k
-decreases-loop-k l = l.rows - l.k

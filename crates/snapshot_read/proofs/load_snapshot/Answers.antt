@@ -1,29 +1,19 @@
 use mathlib.Core.Path.{sym, ◌∙◌}
-use Prim.Native.Nat.{◌/◌}
-use lib.ListN.{length}
-use Rattle.snapshot_judge.specs.DecideLaws.{decided-as}
-use Rattle.snapshot_read.specs.LayLaws.{load-bad, load-refused, load-laid}
+use Rattle.std.proofs.lemmas.Result.{err_from_is_err_and}
+use Rattle.snapshot_read.specs.LayLaws.{load-laid, load-plan_under-refused, plan_under-fits}
 use Rattle.snapshot_read.proofs.load_snapshot.Goals as goal
 
-pub returns-then-not-in_range : goal.returns-then-not-in_range
-returns-then-not-in_range c =
+pub returns-in_err-p : goal.returns-in_err-p
+returns-in_err-p c =
     let a = c.args in
-    rw c.not_loaded.ensures (load-bad a.settings a.s.now a.t.now (sym c.in_range.ensures ∙ c.if-not-in_range.true))
+    let p = err_from_is_err_and c.from_residual.result c.from_residual.ensures.1 in
+    rw (p.1, p.2) (load-plan_under-refused a.settings a.s.now a.t.now c.in_err-p.field-0.0 (sym c.plan_under.ensures ∙ c.in_err-p.was))
 
 pub laid_in-counters-requires : goal.laid_in-counters-requires
-laid_in-counters-requires c =
-    let a = c.args in
-    (decided-as (length a.t.now / 2) a.s.now c.decide-v.ensures c.in-Fits.is).plan
+laid_in-counters-requires c = (plan_under-fits c.args.settings c.args.s.now c.args.t.now c.in_ok-p.p (sym c.plan_under.ensures ∙ c.in_ok-p.was)).1.plan
 
-pub returns-in-Refused : goal.returns-in-Refused
-returns-in-Refused c =
+pub returns : goal.returns
+returns c =
     let a = c.args in
-    let x = c.in-Refused in
-    rw c.not_loaded-in-Refused.ensures
-    (load-refused a.settings a.s.now a.t.now (sym c.in_range.ensures ∙ c.if-not-in_range.false) x.q (decided-as (length a.t.now / 2) a.s.now c.decide-v.ensures x.is))
-
-pub returns-in-Fits : goal.returns-in-Fits
-returns-in-Fits c =
-    let a = c.args in
-    let x = c.in-Fits in
-    load-laid a.settings a.s.now a.t.now (sym c.in_range.ensures ∙ c.if-not-in_range.false) x.p (decided-as (length a.t.now / 2) a.s.now c.decide-v.ensures x.is) c.raised_total-live.ensures c.laid_in-counters.ensures
+    let f = plan_under-fits a.settings a.s.now a.t.now c.in_ok-p.p (sym c.plan_under.ensures ∙ c.in_ok-p.was) in
+    load-laid a.settings a.s.now a.t.now f.0 c.in_ok-p.p f.1 c.max-live.ensures c.laid_in-counters.ensures

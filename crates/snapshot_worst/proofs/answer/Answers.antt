@@ -1,5 +1,5 @@
 -- What the input asks for is at most 200, and where it asks for nothing, nothing is written.
-use Rattle.std.specs.Prelude.{◌≡◌, ℕ, ◌≤◌, Bool, ◌&&◌, List, [], length, leb}
+use Rattle.std.specs.Prelude.{◌≡◌, ℕ, ◌≤◌, Bool, ◌&&◌, List, [], length, leb, Some, None}
 use Rattle.std.proofs.Math.Path.{refl}
 use Rattle.std.proofs.Math.Bool.{true, false}
 use Rattle.std.proofs.Math.Option.{Option, none, some}
@@ -7,13 +7,11 @@ use Rattle.std.proofs.Common.{sym, ap, ◌∙◌, arith}
 use borrow.Author.Tests.{leb-true, le-ltb}
 use Rattle.base.specs.Logic.{all, overlay}
 use Rattle.base.specs.Maybe.{◌>>◌, ensure}
-use Rattle.base.specs.Answers.{taken}
+use Rattle.base.specs.Answers.{taken, Taken}
 use Rattle.base.specs.Output.{effect, fitting, put, written}
-use Rattle.base.specs.declared.Answer.TheVariants.{Taken}
 use Rattle.snapshot.specs.Write.{snapshot_bytes}
 use Rattle.snapshot_bound.specs.Bound.{worst}
 use Rattle.snapshot_bound.specs.Asked.{digit, unended, decimal, most, spelled, asked, answered}
-use Rattle.snapshot_worst.specs.declared.Number.TheVariants.{Of, None}
 use Rattle.snapshot_worst.specs.Number.{number_of}
 use Rattle.snapshot_worst.proofs.answer.Goals as goal
 
@@ -23,7 +21,7 @@ unfolding number_of
 none-asked none e = refl
 none-asked (some n) e = cc
 
-some-asked : (o : Option ℕ) (n : ℕ) → Of n ≡ number_of o → o ≡ some n
+some-asked : (o : Option ℕ) (n : ℕ) → Some n ≡ number_of o → o ≡ some n
 unfolding number_of
 some-asked none n e = cc
 some-asked (some m) n e = cc
@@ -59,18 +57,18 @@ worst-answered : (bs : List ℕ) (n : ℕ) → asked bs ≡ some n → snapshot_
 unfolding answered
 worst-answered bs n e = rw e
 
-pub returns-in_default : goal.returns-in_default
-returns-in_default c =
+pub returns-in-None : goal.returns-in-None
+returns-in-None c =
     let bs = c.args.input.now in
-    rw (nothing-answered bs (none-asked (asked bs) (sym c.in_default.is ∙ c.read_number.ensures))) (nothing-written c.args.out.now)
+    rw (nothing-answered bs (none-asked (asked bs) (sym c.in-None.is ∙ c.read_number.ensures))) (nothing-written c.args.out.now)
 
 pub write_worst-requires : goal.write_worst-requires
 write_worst-requires c =
     let bs = c.args.input.now in
-    asked-most bs c.in-Of.n (some-asked (asked bs) c.in-Of.n (sym c.in-Of.is ∙ c.read_number.ensures))
+    asked-most bs c.in-Some.n (some-asked (asked bs) c.in-Some.n (sym c.in-Some.is ∙ c.read_number.ensures))
 
-pub returns : goal.returns
-returns c =
+pub returns-in-Some : goal.returns-in-Some
+returns-in-Some c =
     let bs = c.args.input.now in
-    let e = some-asked (asked bs) c.in-Of.n (sym c.in-Of.is ∙ c.read_number.ensures) in
-    c.write_worst.ensures ∙ ap (λ (l : List ℕ). written c.args.out.now (taken l)) (worst-answered bs c.in-Of.n e)
+    let e = some-asked (asked bs) c.in-Some.n (sym c.in-Some.is ∙ c.read_number.ensures) in
+    c.write_worst.ensures ∙ ap (λ (l : List ℕ). written c.args.out.now (taken l)) (worst-answered bs c.in-Some.n e)

@@ -1,28 +1,34 @@
 use Rattle.snapshot_worst.specs.NumberLaws.{byte-below, byte_above, digit-next, digit-large, number-end}
-use mathlib.Core.Path.{refl}
+use Rattle.std.proofs.Common.{inl, inr}
+use mathlib.Core.Path.{◌≡◌, refl}
+use Prim.Native.Nat.{◌-◌}
+use lib.ListN.{get_or}
 use native.Mathlib.Omega.{arith}
 use Rattle.snapshot_worst.proofs.spelled_number.Goals as goal
 
--- src/lib.rt:57:5
-pub loop-i-init : goal.loop-i-init
-loop-i-init c = (omega arith, omega arith, refl)
+pub loop-b-init : goal.loop-b-init
+loop-b-init c = (omega arith, refl)
 
--- src/lib.rt:60:13
-pub returns-then-b-lt48 : goal.returns-then-b-lt48
-returns-then-b-lt48 c = let l = c.loop-i in byte-below c.args.s.now l.n l.i c.wide-b.result c.loop-i-test.true c.wide-b.ensures.0 l.invariant.2 c.if-b-lt48.true
+pub loop-b-preserved : goal.loop-b-preserved
+loop-b-preserved c =
+    let l = c.loop-b in
+    let b = c.if-not-is_ascii_digit.ensures.cases in
+    let d : c.from.result ≡ get_or c.args.s.now l.b-index 0 - 48 = omega arith in
+    (omega arith, rw d (digit-next c.args.s.now l.n l.b-index _ c.loop-b-test.true refl l.invariant.1 b.0 b.1))
 
--- src/lib.rt:63:13
-pub returns-then-b-gt57 : goal.returns-then-b-gt57
-returns-then-b-gt57 c = let l = c.loop-i in byte_above c.args.s.now l.n l.i c.wide-b.result c.loop-i-test.true c.wide-b.ensures.0 l.invariant.2 c.if-b-gt57.true
+pub returns-then-not-is_ascii_digit : goal.returns-then-not-is_ascii_digit
+returns-then-not-is_ascii_digit c =
+    let l = c.loop-b in
+    elim c.if-not-is_ascii_digit.ensures.cases [
+      | inl h ↦ byte-below c.args.s.now l.n l.b-index _ c.loop-b-test.true refl l.invariant.1 h
+      | inr h ↦ byte_above c.args.s.now l.n l.b-index _ c.loop-b-test.true refl l.invariant.1 h
+    ]
 
--- src/lib.rt:67:13
 pub returns-then-n-gt-MOST : goal.returns-then-n-gt-MOST
-returns-then-n-gt-MOST c = let l = c.loop-i in digit-large c.args.s.now l.n l.i c.wide-b.result c.loop-i-test.true c.wide-b.ensures.0 l.invariant.2 (omega arith) (omega arith) (omega arith)
+returns-then-n-gt-MOST c =
+    let l = c.loop-b in
+    let b = c.if-not-is_ascii_digit.ensures.cases in
+    digit-large c.args.s.now l.n l.b-index _ c.loop-b-test.true refl l.invariant.1 b.0 b.1 (omega arith)
 
--- src/lib.rt:57:5
-pub loop-i-preserved : goal.loop-i-preserved
-loop-i-preserved c = let l = c.loop-i in (omega arith, omega arith, digit-next c.args.s.now l.n l.i c.wide-b.result c.loop-i-test.true c.wide-b.ensures.0 l.invariant.2 (omega arith) (omega arith))
-
--- src/lib.rt:52:1
 pub returns : goal.returns
-returns c = let l = c.loop-i in number-end c.args.s.now l.n l.i (omega arith) (omega arith) l.invariant.2
+returns c = let l = c.loop-b in number-end c.args.s.now l.n l.b-index (omega arith) (omega arith) l.invariant.1

@@ -1,11 +1,7 @@
 use Rattle.snapshot_lanes.specs.Lanes.{code_lanes}
 use mathlib.Core.Path.{◌≡◌}
-use Prim.Native.Nat.{◌≤◌}
 use lib.ListN.{drop}
 use Rattle.snapshot_lanes.proofs.lanes.code.Given as goal
 
 abbrev pub invariant-loop-k : goal.invariant-loop-k
-invariant-loop-k l = (l.k ≤ 8) × (l.sum ≡ code_lanes l.k l.x (drop l.k l.lanes))
-
-abbrev pub decreases-loop-k : goal.decreases-loop-k
-decreases-loop-k l = l.k
+invariant-loop-k l = l.sum ≡ code_lanes l.k l.x (drop l.k l.lanes)

@@ -1,7 +1,6 @@
-use mathlib.Core.Path.{subst}
+use mathlib.Core.Path.{sym, subst, ◌∙◌}
 use Rattle.snapshot_lanes.specs.Lanes.{LaneOf}
 use Rattle.snapshot_lanes.specs.LaneLaws.{past-led, past-other}
-use mathlib.Core.Path.{sym, ◌∙◌}
 use Rattle.snapshot_lanes.proofs.lanes.past_lane.Goals as goal
 
 pub returns-then-leads : goal.returns-then-leads

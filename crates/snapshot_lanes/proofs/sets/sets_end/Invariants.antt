@@ -4,8 +4,5 @@ use Prim.Native.Nat.{◌-◌, ◌≤◌}
 use lib.ListN.{length}
 use Rattle.snapshot_lanes.proofs.sets.sets_end.Given as goal
 
-abbrev pub invariant-loop-k : goal.invariant-loop-k
-invariant-loop-k l = (l.k ≤ 8) × (l.p ≤ length l.s) × (sets_end (8 - l.k) l.p l.s ≡ sets_end 8 l.at l.s)
-
-abbrev pub decreases-loop-k : goal.decreases-loop-k
-decreases-loop-k l = 8 - l.k
+abbrev pub invariant-loop : goal.invariant-loop
+invariant-loop l = (l.p ≤ length l.s) × (sets_end (8 - l.counter) l.p l.s ≡ sets_end 8 l.at l.s)

@@ -6,39 +6,21 @@ use native.Mathlib.Omega.{arith}
 use Rattle.snapshot_tiers.proofs.large.any_low.Goals as goal
 
 pub loop-i-init : goal.loop-i-init
-loop-i-init c = (omega arith, ap (any low) (raw-start c.args.s.now c.args.at c.args.n))
-
-pub overflow_mul-i : goal.overflow_mul-i
-overflow_mul-i c = omega arith
-
-pub overflow_add-at : goal.overflow_add-at
-overflow_add-at c = omega arith
-
-pub overflow_add-at-in-loop-i : goal.overflow_add-at-in-loop-i
-overflow_add-at-in-loop-i c = omega arith
-
-pub read_le64-requires : goal.read_le64-requires
-read_le64-requires c = omega arith
+loop-i-init c = ap (any low) (raw-start c.args.s.now c.args.at c.args.n)
 
 pub returns-then-read_le64-lt257 : goal.returns-then-read_le64-lt257
 returns-then-read_le64-lt257 c =
     let a = c.args in
     let l = c.loop-i in
     let e = c.read_le64.ensures in
-    low-found a.s.now a.at a.n l.i (omega arith) (omega arith) ∙ l.invariant.1
-
-pub overflow_add-i : goal.overflow_add-i
-overflow_add-i c = omega arith
-
-pub loop-i-smaller : goal.loop-i-smaller
-loop-i-smaller c = omega arith
+    low-found a.s.now a.at a.n l.i (omega arith) (omega arith) ∙ l.invariant
 
 pub loop-i-preserved : goal.loop-i-preserved
 loop-i-preserved c =
     let a = c.args in
     let l = c.loop-i in
     let e = c.read_le64.ensures in
-    (omega arith, sym (low-passed a.s.now a.at a.n l.i (omega arith) (omega arith)) ∙ l.invariant.1)
+    sym (low-passed a.s.now a.at a.n l.i (omega arith) (omega arith)) ∙ l.invariant
 
 pub returns : goal.returns
-returns c = let a = c.args in let l = c.loop-i in low-none a.s.now a.at a.n l.i (omega arith) ∙ l.invariant.1
+returns c = let a = c.args in let l = c.loop-i in low-none a.s.now a.at a.n l.i (omega arith) ∙ l.invariant

@@ -1,12 +1,9 @@
 use Rattle.base.specs.Logic.{any}
 use Rattle.snapshot_tiers.specs.Heads.{low, raw_of}
 use mathlib.Core.Path.{◌≡◌}
-use Prim.Native.Nat.{◌+◌, ◌-◌, ◌*◌, ◌≤◌}
+use Prim.Native.Nat.{◌+◌, ◌-◌, ◌*◌}
 use lib.ListN.{drop}
 use Rattle.snapshot_tiers.proofs.large.any_low.Given as goal
 
 abbrev pub invariant-loop-i : goal.invariant-loop-i
-invariant-loop-i l = (l.i ≤ l.n) × (any low (raw_of (l.n - l.i) (drop (l.at + 16 * l.i) l.s)) ≡ any low (raw_of l.n (drop l.at l.s)))
-
-abbrev pub decreases-loop-i : goal.decreases-loop-i
-decreases-loop-i l = l.n - l.i
+invariant-loop-i l = any low (raw_of (l.n - l.i) (drop (l.at + 16 * l.i) l.s)) ≡ any low (raw_of l.n (drop l.at l.s))

@@ -13,27 +13,6 @@ loop-a-init c =
     let a = c.args in
     omega (arith, place-le a.lo (idxs_of a.n (drop a.at a.s.now)), length-idxs a.n (drop a.at a.s.now))
 
-pub overflow_sub-mid : goal.overflow_sub-mid
-overflow_sub-mid c = omega arith
-
-pub overflow_add-mid : goal.overflow_add-mid
-overflow_add-mid c = omega arith
-
-pub overflow_mul-mid : goal.overflow_mul-mid
-overflow_mul-mid c = omega arith
-
-pub overflow_add-at : goal.overflow_add-at
-overflow_add-at c = omega arith
-
-pub read_le64-requires : goal.read_le64-requires
-read_le64-requires c = omega arith
-
-pub overflow_add-a : goal.overflow_add-a
-overflow_add-a c = omega arith
-
-pub loop-a-smaller-then-read_le64-lo : goal.loop-a-smaller-then-read_le64-lo
-loop-a-smaller-then-read_le64-lo c = omega arith
-
 pub loop-a-preserved-then-read_le64-lo : goal.loop-a-preserved-then-read_le64-lo
 loop-a-preserved-then-read_le64-lo c =
     let a = c.args in
@@ -45,9 +24,6 @@ loop-a-preserved-then-read_le64-lo c =
     let r = c.read_le64.ensures in
     omega (arith, place_up a.lo 0 ks mid (ascending-sorted 0 ks c.requires.1) (omega arith) (omega arith))
 
-pub loop-a-smaller : goal.loop-a-smaller
-loop-a-smaller c = omega arith
-
 pub loop-a-preserved : goal.loop-a-preserved
 loop-a-preserved c =
     let a = c.args in
@@ -58,6 +34,3 @@ loop-a-preserved c =
     let e = idx-at a.s.now a.at a.n mid (omega arith) in
     let r = c.read_le64.ensures in
     omega (arith, place_down a.lo ks mid (omega arith) (omega arith))
-
-pub returns : goal.returns
-returns c = omega arith

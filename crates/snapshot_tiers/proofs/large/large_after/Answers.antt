@@ -1,5 +1,3 @@
--- `snapshot_tiers::large::large_after`.
--- Assumes nothing.
 use mathlib.Core.Path.{sym, ◌∙◌}
 use mathlib.Core.Bool.{false≢true}
 use lib.ListN.{drop}
@@ -7,16 +5,13 @@ use Rattle.snapshot_tiers.specs.Heads.{raw_of}
 use Rattle.snapshot_tiers.specs.StayLaws.{head-stays}
 use Rattle.snapshot_tiers.proofs.large.large_after.Goals as goal
 
-pub large_head-requires : goal.large_head-requires
-large_head-requires c = c.requires.n_in_bounds
+pub returns-in_default : goal.returns-in_default
+returns-in_default c =
+    let a = c.args in
+    let e = c.in-Some.is in
+    sym e ∙ head-stays a.lo (raw_of a.n (drop a.at a.s.now)) a.b c.requires.head_to (λ f. rw e c.if-h-lo.false)
 
-pub returns-then-b-lo : goal.returns-then-b-lo
-returns-then-b-lo c = c.large_head.ensures
-
-pub returns-then-b : goal.returns-then-b
-returns-then-b c =
-    head-stays c.args.lo (raw_of c.args.n (drop c.args.at c.args.s.now)) c.args.b c.requires.head_to (λ f. c.if-b-lo.false)
-
-pub returns : goal.returns
-returns c =
-    head-stays c.args.lo (raw_of c.args.n (drop c.args.at c.args.s.now)) c.args.b c.requires.head_to (λ f. absurd (false≢true (sym c.if-b.false ∙ f)))
+pub returns-in_default-2 : goal.returns-in_default-2
+returns-in_default-2 c =
+    let a = c.args in
+    head-stays a.lo (raw_of a.n (drop a.at a.s.now)) a.b c.requires.head_to (λ f. absurd (false≢true (rw c.in_default.is at f)))

@@ -7,43 +7,19 @@ use native.Mathlib.Omega.{arith}
 use lib.ListN.{drop}
 use Rattle.snapshot_tiers.proofs.large.large_head.Goals as goal
 
-pub scan-requires : goal.scan-requires
-scan-requires c = c.requires.0
-
-pub returns-then-not-ascending : goal.returns-then-not-ascending
-returns-then-not-ascending c = c.scan.ensures
-
 pub count_below-k-requires : goal.count_below-k-requires
 count_below-k-requires c = (c.requires.0, sym c.requires.1 ∙ c.if-not-ascending.false)
-
-pub nothing-requires : goal.nothing-requires
-nothing-requires c = tt
 
 pub returns-then-n-k : goal.returns-then-n-k
 returns-then-n-k c =
     let a = c.args in
     let k = c.count_below-k in
     let h : k.result ≤ a.n = omega (arith, k.ensures, place-le a.lo (idxs_of a.n (drop a.at a.s.now)), length-idxs a.n (drop a.at a.s.now)) in
-    c.nothing.ensures ∙ sorted_none a.s.now a.at a.n a.lo k.result (sym c.requires.1 ∙ c.if-not-ascending.false) k.ensures h (omega arith)
-
-pub overflow_mul-p : goal.overflow_mul-p
-overflow_mul-p c = omega arith
-
-pub overflow_add-p : goal.overflow_add-p
-overflow_add-p c = omega arith
-
-pub read_le64-idx-requires : goal.read_le64-idx-requires
-read_le64-idx-requires c = omega arith
-
-pub overflow_add-p-2 : goal.overflow_add-p-2
-overflow_add-p-2 c = omega arith
-
-pub read_le64-count-requires : goal.read_le64-count-requires
-read_le64-count-requires c = omega arith
+    sorted_none a.s.now a.at a.n a.lo k.result (sym c.requires.1 ∙ c.if-not-ascending.false) k.ensures h (omega arith)
 
 pub returns : goal.returns
 returns c =
     let a = c.args in
     let k = c.count_below-k in
-    rw (c.read_le64-idx.ensures, c.read_le64-count.ensures)
+    rw (c.read_le64.ensures, c.read_le64-2.ensures)
     (sorted-some a.s.now a.at a.n a.lo k.result (sym c.requires.1 ∙ c.if-not-ascending.false) k.ensures (omega arith))
