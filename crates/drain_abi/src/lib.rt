@@ -22,8 +22,8 @@ pub fn selvaigo_drain_promotable(
     ensures { said result (len.new ∷ []) (nursery.new ∷ waiting.new ∷ out.new ∷ []) ≡ drain_said nursery.old entries.now waiting.old cells.now round out.old }
 {
     let r = nursery_of(nursery);
-    let x = nursery_drain::drain_promotable(r, entries, waiting, cells, round, out);
-    put_drained(x, nursery, len)
+    let drained = nursery_drain::drain_promotable(r, entries, waiting, cells, round, out);
+    put_drained(drained, nursery, len)
 }
 
 // The same, where the record and the tables hold a state.
@@ -40,6 +40,6 @@ pub fn selvaigo_drain_promotable_held(
     ensures { said result (len.new ∷ []) (nursery.new ∷ waiting.new ∷ out.new ∷ []) ≡ drain_said nursery.old entries.now waiting.old cells.now round out.old }
 {
     let r = nursery_of(nursery);
-    let x = nursery_drain::drain_promotable_held(r, entries, waiting, cells, round, out);
-    put_drained(x, nursery, len)
+    let drained = nursery_drain::drain_promotable_held(r, entries, waiting, cells, round, out);
+    put_drained(drained, nursery, len)
 }

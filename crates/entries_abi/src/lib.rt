@@ -6,7 +6,7 @@ ghost use Rattle.cell_nursery.specs.Layout.{holds_entries, holds_cells};
 ghost use Rattle.state_words.specs.Words.{nursery_of, said};
 ghost use Rattle.word_calls.specs.NurserySaid.{idx_said, data_said};
 
-use state_steps::{put_data, put_found};
+use state_steps::{put_found, put_place};
 use state_words::nursery_of;
 
 // The index of a hash.
@@ -18,8 +18,8 @@ pub fn selvaigo_get_idx(
 ) -> u8
     ensures { said result (found.new ∷ []) [] ≡ idx_said nursery.now entries.now hash.now }
 {
-    let x = nursery_lookup::get_idx(nursery_of(nursery), entries, *hash);
-    put_found(x, found)
+    let entry = nursery_lookup::get_idx(nursery_of(nursery), entries, *hash);
+    put_found(entry, found)
 }
 
 // The same, where the record and the entries hold a state.
@@ -32,8 +32,8 @@ pub fn selvaigo_get_idx_held(
     requires { holds_entries (nursery_of nursery.now) entries.now ≡ true }
     ensures { said result (found.new ∷ []) [] ≡ idx_said nursery.now entries.now hash.now }
 {
-    let x = nursery_lookup::get_idx_held(nursery_of(nursery), entries, *hash);
-    put_found(x, found)
+    let entry = nursery_lookup::get_idx_held(nursery_of(nursery), entries, *hash);
+    put_found(Ok(entry), found)
 }
 
 // Where the cell of a hash lies.
@@ -46,8 +46,8 @@ pub fn selvaigo_get_data(
 ) -> u8
     ensures { said result (found.new ∷ []) [] ≡ data_said nursery.now entries.now cells.now hash.now }
 {
-    let x = nursery_lookup::get_data(nursery_of(nursery), entries, cells, *hash);
-    put_data(x, found)
+    let cell = nursery_lookup::get_data(nursery_of(nursery), entries, cells, *hash);
+    put_place(cell, found)
 }
 
 // The same, where the record, the entries and the cells hold a state.
@@ -61,6 +61,6 @@ pub fn selvaigo_get_data_held(
     requires { (holds_entries (nursery_of nursery.now) entries.now ≡ true) × (holds_cells (nursery_of nursery.now) cells.now ≡ true) }
     ensures { said result (found.new ∷ []) [] ≡ data_said nursery.now entries.now cells.now hash.now }
 {
-    let x = nursery_lookup::get_data_held(nursery_of(nursery), entries, cells, *hash);
-    put_data(x, found)
+    let cell = nursery_lookup::get_data_held(nursery_of(nursery), entries, cells, *hash);
+    put_place(Ok(cell), found)
 }

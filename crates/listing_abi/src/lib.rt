@@ -19,8 +19,8 @@ pub fn selvaigo_snapshot_entries(
 ) -> u8
     ensures { said result (len.new ∷ []) (out.new ∷ []) ≡ listing_said nursery.now entries.now cells.now out.old }
 {
-    let x = nursery_listing::snapshot_entries(nursery_of(nursery), entries, cells, out);
-    put_wrote(x, len)
+    let wrote = nursery_listing::snapshot_entries(nursery_of(nursery), entries, cells, out);
+    put_wrote(wrote, len)
 }
 
 // The same, where the record, the entries and the cells hold a state.
@@ -34,6 +34,6 @@ pub fn selvaigo_snapshot_entries_held(
     requires { (holds_entries (nursery_of nursery.now) entries.now ≡ true) × (holds_cells (nursery_of nursery.now) cells.now ≡ true) }
     ensures { said result (len.new ∷ []) (out.new ∷ []) ≡ listing_said nursery.now entries.now cells.now out.old }
 {
-    let x = nursery_listing::snapshot_entries_held(nursery_of(nursery), entries, cells, out);
-    put_wrote(x, len)
+    let wrote = nursery_listing::snapshot_entries_held(nursery_of(nursery), entries, cells, out);
+    put_wrote(wrote, len)
 }

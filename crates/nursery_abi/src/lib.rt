@@ -8,7 +8,7 @@ ghost use Rattle.state_words.specs.Words.{nursery_of, said};
 ghost use Rattle.word_calls.specs.NurserySaid.{empty_said, commit_said};
 
 use nursery_commit::{apply_commit, apply_commit_held};
-use state_steps::{put_committed, put_nursery};
+use state_steps::put_nursery;
 use state_words::nursery_of;
 
 // An empty nursery with a delay, in a record and tables of any content. A refusal changes none of them.
@@ -21,10 +21,8 @@ pub fn selvaigo_nursery_new(
 ) -> u8
     ensures { said result [] (nursery.new ∷ entries.new ∷ waiting.new ∷ cells.new ∷ []) ≡ empty_said delay nursery.old entries.old waiting.old cells.old }
 {
-    let x = nursery_table::new(delay, entries, waiting, cells);
-    let a = x.answer;
-    let n = x.nursery;
-    put_nursery(a, n, nursery)
+    let made = nursery_table::new(delay, entries, waiting, cells);
+    put_nursery(made, nursery)
 }
 
 // A delta.
@@ -42,8 +40,8 @@ pub fn selvaigo_apply_commit(
 {
     let r = nursery_of(nursery);
     let w = wide != 0;
-    let x = apply_commit(r, entries, waiting, cells, w, inserts, removes, items);
-    put_committed(x, nursery)
+    let after = apply_commit(r, entries, waiting, cells, w, inserts, removes, items);
+    put_nursery(after, nursery)
 }
 
 // The same, where the record and the tables hold a state.
@@ -62,6 +60,6 @@ pub fn selvaigo_apply_commit_held(
 {
     let r = nursery_of(nursery);
     let w = wide != 0;
-    let x = apply_commit_held(r, entries, waiting, cells, w, inserts, removes, items);
-    put_committed(x, nursery)
+    let after = apply_commit_held(r, entries, waiting, cells, w, inserts, removes, items);
+    put_nursery(after, nursery)
 }

@@ -2,12 +2,20 @@
 #![tactic(auto)]
 
 ghost use Rattle.std.specs.Prelude.{◌≡◌, [], ◌∷◌};
-ghost use Rattle.state_words.specs.Words.{said};
+ghost use Rattle.base.specs.Answers.{answered, answer_number};
+ghost use Rattle.snapshot.specs.Returned.{as_loaded};
+ghost use Rattle.journal.specs.Returned.{as_read};
+ghost use Rattle.state_words.specs.Words.{counters_words, nursery_words, words_left, said};
 ghost use Rattle.word_calls.specs.CountersSaid.{deserialize_said, load_said};
 ghost use Rattle.word_calls.specs.RecordSaid.{journal_said};
 
+use base::{Refusal, answer_number};
 use counters::ShrinkSettings;
-use state_steps::{put_counters, put_nursery};
+use journal::JournalRead;
+use snapshot::Loaded;
+use state_steps::put_counters;
+use state_words::{counters_words, nursery_words};
+use word_calls::key_said;
 
 // The state that a snapshot holds, under settings, into a record and a table of any content. A refusal changes neither.
 pub fn selvaigo_deserialize_trusted(
@@ -25,10 +33,24 @@ pub fn selvaigo_deserialize_trusted(
         max: shrink_max,
         good_save,
     };
-    let x = snapshot_read::deserialize_trusted(snapshot, settings, counts);
-    let a = x.answer;
-    let c = x.counters;
-    put_counters(a, c, state)
+    let read = snapshot_read::deserialize_trusted(snapshot, settings, counts);
+    put_counters(read, state)
+}
+
+// The record of counters that are loaded, and the live total that the snapshot has, 0 beside a refusal.
+fn put_loaded(
+    loaded: Result<Loaded, Refusal>,
+    state: &mut [u64; 16],
+    old_total: &mut [u64; 1],
+) -> u8
+    ensures { (result ≡ answer_number (answered loaded)) × (old_total.new ≡ (as_loaded loaded).old_total ∷ []) × (state.new ≡ words_left (λ l. counters_words l.counters) state.old loaded) }
+{
+    *old_total = [0];
+    if let Ok(read) = loaded {
+        *old_total = [read.old_total];
+        *state = counters_words(read.counters);
+    }
+    answer_number(loaded)
 }
 
 // The same of a snapshot from before 25: a live total below the number of counts is raised to it. The total that the snapshot has goes into
@@ -49,11 +71,22 @@ pub fn selvaigo_load_snapshot(
         max: shrink_max,
         good_save,
     };
-    let x = snapshot_read::load_snapshot(snapshot, settings, counts);
-    *old_total = [x.old_total];
-    let a = x.answer;
-    let loaded = x.counters;
-    put_counters(a, loaded, state)
+    let loaded = snapshot_read::load_snapshot(snapshot, settings, counts);
+    put_loaded(loaded, state, old_total)
+}
+
+// The record of a nursery that is read in, how many records were applied, the place after them and the number of what ended them; zeros beside a refusal.
+fn put_read(done: Result<JournalRead, Refusal>, nursery: &mut [u64; 4], read: &mut [u64; 3]) -> u8
+    ensures { (result ≡ answer_number (answered done)) × (read.new ≡ (as_read done).applied ∷ (as_read done).place ∷ answer_number (as_read done).ended ∷ [])
+        × (nursery.new ≡ words_left (λ j. nursery_words j.nursery) nursery.old done) }
+{
+    *read = [0; 3];
+    if let Ok(far) = done {
+        let number = answer_number(far.ended) as u64;
+        *read = [far.applied as u64, far.place as u64, number];
+        *nursery = nursery_words(far.nursery);
+    }
+    answer_number(done)
 }
 
 // A journal, read in a mode (a flag, whether there is a key, and the key) into an empty nursery with a delay, in a record and tables of any content. A
@@ -71,11 +104,7 @@ pub fn selvaigo_read_journal(
 ) -> u8
     ensures { said result (read.new ∷ []) (nursery.new ∷ entries.new ∷ waiting.new ∷ cells.new ∷ []) ≡ journal_said keyed key.now delay journal.now nursery.old entries.old waiting.old cells.old }
 {
-    let x = journal_read::read_journal(keyed != 0, key, journal, delay, entries, waiting, cells);
-    let ended = x.ended;
-    let number = ended.number() as u64;
-    *read = [x.applied as u64, x.place as u64, number];
-    let a = x.answer;
-    let n = x.nursery;
-    put_nursery(a, n, nursery)
+    let key = key_said(keyed, key);
+    let done = journal_read::read_journal(key, journal, delay, entries, waiting, cells);
+    put_read(done, nursery, read)
 }

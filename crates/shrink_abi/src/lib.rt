@@ -20,9 +20,8 @@ pub fn selvaigo_shrink_if_needed(
 ) -> u8
     ensures { said result (shrunk.new ∷ []) (state.new ∷ []) ≡ shrink_said state.old counts.now bytes_saved }
 {
-    let c = counters_of(state);
-    let x = counter_shrink::shrink_if_needed(c, counts, bytes_saved);
-    put_shrunk(x, state, shrunk)
+    let decided = counter_shrink::shrink_if_needed(counters_of(state), counts, bytes_saved);
+    put_shrunk(decided, state, shrunk)
 }
 
 // The same, where the record and the table hold a state.
@@ -35,16 +34,15 @@ pub fn selvaigo_shrink_if_needed_held(
     requires { layout.holds (counters_of state.old) counts.now ≡ true }
     ensures { said result (shrunk.new ∷ []) (state.new ∷ []) ≡ shrink_said state.old counts.now bytes_saved }
 {
-    let c = counters_of(state);
-    let x = counter_shrink::shrink_held(c, counts, bytes_saved);
-    put_shrunk(x, state, shrunk)
+    let decided = counter_shrink::shrink_held(counters_of(state), counts, bytes_saved);
+    put_shrunk(Ok(decided), state, shrunk)
 }
 
 // Whether so many removals call for shrinking: 1 or 0.
 pub fn selvaigo_should_shrink(alive: u64, removed_since_shrink: u64, min_removed: u64) -> u8
     ensures { result ≡ bit (should_shrink alive removed_since_shrink min_removed) }
 {
-    shrink_rules::should_shrink(alive, removed_since_shrink, min_removed) as u8
+    u8::from(shrink_rules::should_shrink(alive, removed_since_shrink, min_removed))
 }
 
 // The threshold that follows a shrink which saved so many bytes, by the settings given. No removal count has a part in it.

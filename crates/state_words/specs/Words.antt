@@ -1,10 +1,9 @@
 -- The two state records as words in the order of docs/LAYOUT.md, and what a call that is lent words gives and leaves.
 -- Assumes nothing.
-use Rattle.std.specs.Prelude.{ℕ, ◌≡◌, Bool, true, false, List, [], ◌∷◌, get_or}
-use Rattle.base.specs.Answers.{answer_number}
+use Rattle.std.specs.Prelude.{ℕ, ◌≡◌, Bool, true, false, List, [], ◌∷◌, get_or, Result, Ok, Err}
+use Rattle.base.specs.Answers.{answer_number, Answer, Taken, Refused}
 use Rattle.base.specs.Output.{Written}
-use Rattle.base.specs.declared.Answer.{Answer}
-use Rattle.base.specs.declared.Answer.TheVariants.{Taken, Refused}
+use Rattle.base.specs.declared.Refusal.{Refusal}
 use Rattle.counters.specs.declared.ShrinkSettings.{ShrinkSettings}
 use Rattle.counters.specs.declared.Counters.{Counters}
 use Rattle.cell_nursery.specs.declared.Nursery.{Nursery}
@@ -86,6 +85,11 @@ written_said x = said (answer_number x.result.answer) (one_word x.result.len) (x
 abbrev pub words_after : List ℕ → Answer → List ℕ → List ℕ
 words_after w Taken v = v
 words_after w (Refused r) v = w
+
+-- the same of what a function returns, by the words of its value
+abbrev pub words_left : {A : Type 0} → (A → List ℕ) → List ℕ → Result A Refusal → List ℕ
+words_left f w (Ok a) = f a
+words_left f w (Err r) = w
 
 -- beside a refusal these are the values, and these the slices
 abbrev pub Unchanged : List (List ℕ) → List (List ℕ) → Said → Type 0

@@ -4,15 +4,12 @@ use Rattle.std.specs.Prelude.{ℕ, ◌≡◌, List, [], ◌∷◌}
 use Rattle.std.proofs.Math.Path.{ap}
 use Rattle.std.proofs.Common.{◌∙◌}
 use Rattle.base.specs.Answers.{answer_number}
-use Rattle.base.specs.declared.Wrote.{Wrote}
+use Rattle.base.specs.Output.{Wrote}
 use Rattle.counters.specs.declared.Counters.{Counters}
-use Rattle.counters.specs.declared.Allocated.{Allocated}
-use Rattle.counters.specs.declared.Applied.{Applied}
-use Rattle.counters.specs.declared.Got.{Got}
-use Rattle.counters.specs.declared.Shrunk.{Shrunk}
+use Rattle.counters.specs.Returned.{Allocated, Applied, Got, ShrunkAnswer}
 use Rattle.counters.specs.Calls.{Changed, effect, alloc_call, get_call, batch_call, shrink_call}
 use Rattle.base.specs.Output as output
-use Rattle.snapshot.specs.declared.Loaded.{Loaded}
+use Rattle.snapshot.specs.Returned.{LoadedAnswer}
 use Rattle.snapshot.specs.Calls.{serialize_call, Loading, load_effect, length_call}
 use Rattle.state_words.specs.Words.{counters_of, counters_words, said, one_word, decisions, written_said, words_after}
 use Rattle.word_calls.specs.CountersSaid.{changed_said, allocated_said, got_said, shrunk_said, length_found, read_said, loaded_said, alloc_said, get_said, batch_said, shrink_said, length_said, serialize_said}
@@ -34,7 +31,7 @@ module _ (w : List ℕ) {c : Counters} (s : c ≡ counters_of w) {r : ℕ} where
   unfolding batch_said changed_said
   batch-said t b g p = rw (p.0, p.1) (ap changed_said (g ∙ ap (λ (k : Counters). batch_call k t b) s))
 
-  pub shrink-said : (t : List ℕ) (saved : ℕ) {x : Shrunk} {v d : List ℕ} → x ≡ shrink_call c t saved
+  pub shrink-said : (t : List ℕ) (saved : ℕ) {x : ShrunkAnswer} {v d : List ℕ} → x ≡ shrink_call c t saved
       → (r ≡ answer_number x.answer) × (d ≡ decisions x.alive x.small) × (v ≡ counters_words x.counters) → said r (d ∷ []) (v ∷ []) ≡ shrink_said w t saved
   unfolding shrink_said shrunk_said
   shrink-said t saved g p = rw (p.0, p.1, p.2) (ap shrunk_said (g ∙ ap (λ (k : Counters). shrink_call k t saved) s))
@@ -55,7 +52,7 @@ module _ (w : List ℕ) {r : ℕ} {u v : List ℕ} where
   unfolding read_said
   read-said g p = rw (p.0, p.1) (ap (read_said w) g)
 
-  pub loaded-said : {x : Loaded} {y : Loading} {n : List ℕ} → load_effect x u ≡ y → (r ≡ answer_number x.answer) × (v ≡ words_after w x.answer (counters_words x.counters))
+  pub loaded-said : {x : LoadedAnswer} {y : Loading} {n : List ℕ} → load_effect x u ≡ y → (r ≡ answer_number x.answer) × (v ≡ words_after w x.answer (counters_words x.counters))
       → n ≡ x.old_total ∷ [] → said r (n ∷ []) (v ∷ u ∷ []) ≡ loaded_said w y
   unfolding loaded_said
   loaded-said g p o = rw (p.0, p.1, o) (ap (loaded_said w) g)

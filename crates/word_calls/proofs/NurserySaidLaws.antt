@@ -4,12 +4,8 @@ use Rattle.std.specs.Prelude.{ℕ, ◌≡◌, List, [], ◌∷◌}
 use Rattle.std.proofs.Common.{ap}
 use Rattle.base.specs.Answers.{answer_number}
 use Rattle.base.specs.Output as output
-use Rattle.base.specs.Output.{Written}
-use Rattle.base.specs.declared.Wrote.{Wrote}
-use Rattle.cell_nursery.specs.declared.Committed.{Committed}
-use Rattle.cell_nursery.specs.declared.Drained.{Drained}
-use Rattle.cell_nursery.specs.declared.Found.{Found}
-use Rattle.cell_nursery.specs.declared.Data.{Data}
+use Rattle.base.specs.Output.{Written, Wrote}
+use Rattle.cell_nursery.specs.Returned.{Committed, Drained, Found, Data}
 use Rattle.cell_nursery.specs.Calls.{Changed, effect, DrainedOut, drain_effect}
 use Rattle.state_words.specs.Words.{nursery_words, said, bit, written_said, words_after}
 use Rattle.word_calls.specs.NurserySaid.{committed_said, made_said, drained_said, found_said, placed_said}

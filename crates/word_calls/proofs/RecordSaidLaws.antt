@@ -9,12 +9,9 @@ use Rattle.base.specs.declared.Refusal.TheVariants.{BadSetting}
 use Rattle.blake3.specs.declared.Start.{Start}
 use Rattle.blake3.specs.Mode.{mode_of, bad_key, hash_by, start_of, hash_from}
 use Rattle.blake3.specs.ModeLaws.{started}
-use Rattle.format.specs.declared.Encoded.{Encoded}
-use Rattle.format.specs.declared.Decoded.{Decoded}
+use Rattle.format.specs.Returned.{Encoded, Decoded}
 use Rattle.format.specs.Calls.{EncodedOut}
-use Rattle.journal.specs.declared.JournalRead.{JournalRead}
-use Rattle.journal.specs.declared.JournalScan.{JournalScan}
-use Rattle.journal.specs.declared.Converted.{Converted}
+use Rattle.journal.specs.Returned.{ReadAnswer, ScanAnswer, ConvertedAnswer}
 use Rattle.journal.specs.Journal.{ReadIn, effect}
 use Rattle.journal.specs.Convert as convert
 use Rattle.journal.specs.Convert.{ConvertedOut}
@@ -41,18 +38,18 @@ pub decoded-said : {x y : Decoded} {r : ℕ} → x ≡ y → r ≡ answer_number
 unfolding decoded_said
 decoded-said e p = rw p (ap decoded_said e)
 
-pub scanned-said : {x y : JournalScan} {n r : ℕ} → x ≡ y → n ≡ answer_number x.ended → r ≡ answer_number x.answer
+pub scanned-said : {x y : ScanAnswer} {n r : ℕ} → x ≡ y → n ≡ answer_number x.ended → r ≡ answer_number x.answer
     → said r ((x.records ∷ x.place ∷ n ∷ []) ∷ []) [] ≡ scanned_said y
 unfolding scanned_said
 scanned-said e p q = rw (p, q) (ap scanned_said e)
 
-pub converted-said : {x : Converted} {t u : List ℕ} {y : ConvertedOut} {r : ℕ} → convert.effect x t u ≡ y → r ≡ answer_number x.answer
+pub converted-said : {x : ConvertedAnswer} {t u : List ℕ} {y : ConvertedOut} {r : ℕ} → convert.effect x t u ≡ y → r ≡ answer_number x.answer
     → said r ((x.len ∷ x.dropped_len ∷ []) ∷ []) (t ∷ u ∷ []) ≡ converted_said y
 unfolding converted_said
 converted-said e p = rw p (ap converted_said e)
 
 -- a journal that is read: the record's words are v where the reading is refused
-pub read-said : (v : List ℕ) {x : JournalRead} {es ws cs u : List ℕ} {y : ReadIn} {n r : ℕ} → effect x es ws cs ≡ y → n ≡ answer_number x.ended
+pub read-said : (v : List ℕ) {x : ReadAnswer} {es ws cs u : List ℕ} {y : ReadIn} {n r : ℕ} → effect x es ws cs ≡ y → n ≡ answer_number x.ended
     → (r ≡ answer_number x.answer) × (u ≡ words_after v x.answer (nursery_words x.nursery))
     → said r ((x.applied ∷ x.place ∷ n ∷ []) ∷ []) (u ∷ es ∷ ws ∷ cs ∷ []) ≡ read_in_said v y
 unfolding read_in_said

@@ -3,10 +3,8 @@
 -- Assumes nothing.
 use Rattle.std.specs.Prelude.{ℕ, List, [], ◌∷◌}
 use Rattle.base.specs.Answers.{answer_number}
-use Rattle.base.specs.declared.Wrote.{Wrote}
-use Rattle.counters.specs.declared.Allocated.{Allocated}
-use Rattle.counters.specs.declared.Got.{Got}
-use Rattle.counters.specs.declared.Shrunk.{Shrunk}
+use Rattle.base.specs.Output.{Wrote}
+use Rattle.counters.specs.Returned.{Allocated, Got, ShrunkAnswer}
 use Rattle.counters.specs.Calls.{Changed, new_call, alloc_call, get_call, batch_call, shrink_call}
 use Rattle.snapshot.specs.Calls.{Loading, serialize_call, deserialize_call, load_call, length_call}
 use Rattle.state_words.specs.Words.{settings_of, counters_of, counters_words, decisions, Said, said, one_word, written_said, words_after}
@@ -26,7 +24,7 @@ unfoldable pub got_said : Got → Said
 got_said x = said (answer_number x.answer) (one_word x.count.0) []
 
 -- what is to be shrunk: the value is the decisions, and the record's words are written
-unfoldable pub shrunk_said : Shrunk → Said
+unfoldable pub shrunk_said : ShrunkAnswer → Said
 shrunk_said x = said (answer_number x.answer) (decisions x.alive x.small ∷ []) (counters_words x.counters ∷ [])
 
 -- a length that was found

@@ -3,8 +3,7 @@
 use Rattle.std.specs.Prelude.{ℕ, Bool, not, List, [], ◌∷◌, eqb}
 use Rattle.base.specs.Bytes.{unbe}
 use Rattle.base.specs.Answers.{answer_number}
-use Rattle.cell_nursery.specs.declared.Found.{Found}
-use Rattle.cell_nursery.specs.declared.Data.{Data}
+use Rattle.cell_nursery.specs.Returned.{Found, Data}
 use Rattle.cell_nursery.specs.Calls.{Changed, new_call, delta_call, DrainedOut, drain_call, lookup_call, data_call, listing_call}
 use Rattle.state_words.specs.Words.{nursery_of, nursery_words, Said, said, bit, one_word, written_said, words_after}
 

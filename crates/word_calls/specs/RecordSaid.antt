@@ -8,9 +8,9 @@ use Rattle.base.specs.declared.Refusal.TheVariants.{BadSetting}
 use Rattle.blake3.specs.Spec as blake3
 use Rattle.blake3.specs.Mode.{Mode, mode_of, bad_key}
 use Rattle.format.specs.declared.RecordStats.{RecordStats}
-use Rattle.format.specs.declared.Decoded.{Decoded}
+use Rattle.format.specs.Returned.{Decoded}
 use Rattle.format.specs.Calls.{EncodedOut, encode_under, decode_under}
-use Rattle.journal.specs.declared.JournalScan.{JournalScan}
+use Rattle.journal.specs.Returned.{ScanAnswer}
 use Rattle.journal.specs.Journal.{scan_under, ReadIn, read_under}
 use Rattle.journal.specs.Convert.{ConvertedOut, convert_call}
 use Rattle.state_words.specs.Words.{nursery_words, Said, said, words_after}
@@ -46,7 +46,7 @@ unfoldable pub decode_said : ℕ → List ℕ → List ℕ → Said
 decode_said keyed key bs = decoded_said (decode_under (mode_said keyed key) bs)
 
 -- how many records of a journal are taken, the place after them, and the number of what ended them
-unfoldable pub scanned_said : JournalScan → Said
+unfoldable pub scanned_said : ScanAnswer → Said
 scanned_said x = said (answer_number x.answer) ((x.records ∷ x.place ∷ answer_number x.ended ∷ []) ∷ []) []
 
 -- the records of a journal, in a mode, applied to nothing

@@ -1,8 +1,13 @@
 -- `nursery_abi::selvaigo_apply_commit` meets its contract: the call under it, over words. Assumes nothing.
+use borrow.Author.Rules.{rules}
 use Rattle.word_calls.specs.NurserySaid.{commit_said}
+use Rattle.std.specs.Prelude.{refl}
 use Rattle.word_calls.proofs.NurserySaidLaws.{committed-said}
+use Rattle.word_calls.proofs.ReturnedLaws.{committed-returned}
 use Rattle.nursery_abi.proofs.selvaigo_apply_commit.Goals as goal
 
 pub returns : goal.returns
 unfolding commit_said
-returns c = committed-said (rw c.nursery_of-r.ensures at c.apply_commit-x.ensures) c.put_committed.ensures
+returns c =
+    let w = c.args.nursery.now in
+    committed-said (rw c.nursery_of-r.ensures at c.apply_commit-after.ensures) (committed-returned w (search rules) refl c.apply_commit-after.result c.put_nursery.ensures)

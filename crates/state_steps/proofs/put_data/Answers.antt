@@ -1,7 +1,0 @@
--- `state_steps::put_data` meets its contract: a bool that is cast is 1 or 0. Assumes nothing.
-use Rattle.state_words.specs.WordLaws.{bool-bit}
-use Rattle.state_steps.proofs.put_data.Goals as goal
-
-pub returns : goal.returns
-returns c =
-    (c.number.ensures, rw (bool-bit c.args.cell.found))
