@@ -14,21 +14,18 @@ use Rattle.base.specs.Maybe.{◌>>◌, ensure}
 use Rattle.base.specs.Bytes.{unle}
 use Rattle.slices.specs.Laws.{part-paste}
 use Rattle.counters.specs.declared.Counters.{Counters}
-use Rattle.counters.specs.declared.Allocated.{Allocated}
-use Rattle.counters.specs.declared.Applied.{Applied}
+use Rattle.counters.specs.Returned.{Allocated, Applied}
 use Rattle.counters.specs.Calls as counters
 use Rattle.cell_nursery.specs.declared.Nursery.{Nursery}
-use Rattle.cell_nursery.specs.declared.Committed.{Committed}
-use Rattle.cell_nursery.specs.declared.Drained.{Drained}
+use Rattle.cell_nursery.specs.Returned.{Committed, Drained}
 use Rattle.cell_nursery.specs.Calls as nursery
 use Rattle.delta_items.specs.Walk.{inserts_len, items_fit, delta_in, removes_at}
 use Rattle.delta_items.specs.WalkLaws.{delta-whole, delta-none, length-inserts, length-hashes, inserts-cells, fit-inserts, fit-removes, removes-at, removes-past}
-use Rattle.delta_items.specs.declared.End.TheVariants.{At, Past}
+use Rattle.std.specs.Prelude.{Some, None}
 use Rattle.format.specs.Record.{stats_of, leftover}
 use Rattle.format.proofs.RefusalLaws.{payload-short, payload-past, payload-items}
 use Rattle.node_box.specs.Box.{Call, delta, step, with_counters, with_nursery}
-use Rattle.box_items.specs.declared.Ran.{Ran}
-use Rattle.box_items.specs.Items.{allocate_item, words_in, batch_item, delta_item, drain_room, drain_item, call_of, box_of, effect, bad_item, ran}
+use Rattle.box_items.specs.Items.{RanAnswer, allocate_item, words_in, batch_item, delta_item, drain_room, drain_item, call_of, box_of, effect, bad_item, ran}
 
 -- ---- the words of a body
 
@@ -69,11 +66,11 @@ items_fill inserts removes items = items_fit 2 inserts removes items && eqb (ins
 
 -- by where the removes begin
 module _ (x y : ℕ) (items : List ℕ) where
-  pub fill-past : removes_at 2 x y items ≡ Past → items_fill x y items ≡ false
+  pub fill-past : removes_at 2 x y items ≡ None → items_fill x y items ≡ false
   unfolding items_fill
   fill-past e = rw (removes-past 2 x y items e)
 
-  module _ (at : ℕ) (e : removes_at 2 x y items ≡ At at) where
+  module _ (at : ℕ) (e : removes_at 2 x y items ≡ Some at) where
     pub fill-at : items_fill x y items ≡ eqb (at + 32 * y) (length items)
     unfolding items_fill
     fill-at =
@@ -186,9 +183,9 @@ module _ (kind : ℕ) (body : List ℕ) where
 -- ---- what running an item gives
 
 module _ (c : Counters) (n : Nursery) (t es ws cs : List ℕ) where
-  pub bad-ran : (r : Ran) (item : Option Call) → r ≡ bad_item c n → item ≡ none → effect r t es ws cs ≡ ran (box_of c t n es ws cs) item
+  pub bad-ran : (r : RanAnswer) (item : Option Call) → r ≡ bad_item c n → item ≡ none → effect r t es ws cs ≡ ran (box_of c t n es ws cs) item
   unfolding ran
-  bad-ran r item e f = ap (λ (x : Ran). effect x t es ws cs) e ∙ ap (λ (o : Option Call). ran (box_of c t n es ws cs) o) (sym f)
+  bad-ran r item e f = ap (λ (x : RanAnswer). effect x t es ws cs) e ∙ ap (λ (o : Option Call). ran (box_of c t n es ws cs) o) (sym f)
 
   module _ (body : List ℕ) where
     pub allocate-ran : (a : Allocated) → a ≡ counters.alloc_call c → length body ≡ 0

@@ -5,9 +5,7 @@ use Rattle.std.proofs.Math.Option.{Option, none, some}
 use Rattle.base.specs.Logic.{pick, flat, zeros}
 use Rattle.base.specs.Maybe.{◌>>=◌, ◌>>◌, ensure}
 use Rattle.base.specs.Bytes.{unle, cut}
-use Rattle.base.specs.Answers.{answer_number}
-use Rattle.base.specs.declared.Answer.{Answer}
-use Rattle.base.specs.declared.Answer.TheVariants.{Refused}
+use Rattle.base.specs.Answers.{answer_number, Answer, Refused}
 use Rattle.base.specs.declared.Refusal.TheVariants.{Broken}
 use Rattle.counters.specs.declared.Counters.{Counters}
 use Rattle.cell_nursery.specs.declared.Nursery.{Nursery}
@@ -17,7 +15,6 @@ use Rattle.node_box.specs.Box.{standard_settings, Box, Call, allocate, batch, de
 use Rattle.box_lines.specs.declared.Line.{Line}
 use Rattle.box_lines.specs.Lines.{kind_of, body_len, line_text, heading}
 use Rattle.box_items.specs.declared.Next.{Next}
-use Rattle.box_items.specs.declared.Ran.{Ran}
 
 -- ---- the call of a kind and a body; none where the item is bad
 
@@ -59,17 +56,24 @@ call_of kind body =
 abbrev pub box_of : Counters → List ℕ → Nursery → List ℕ → List ℕ → List ℕ → Box
 box_of c t n es ws cs = record { counters = c; counts = t; nursery = n; entries = es; waiting = ws; cells = cs }
 
--- whether the item stood for a call, the answer, and the box after it
+-- whether the item stood for a call, the answer, and the records after it
+pub record RanAnswer : Type 0 where
+  pub good : Bool
+  pub answer : Answer
+  pub counters : Counters
+  pub nursery : Nursery
+
+-- the same with the box after it
 pub record Ended : Type 0 where
   pub good : Bool
   pub answer : Answer
   pub box : Box
 
 -- running an item's effect, for its contract: what it returned, and the tables as it left them
-abbrev pub effect : Ran → List ℕ → List ℕ → List ℕ → List ℕ → Ended
+abbrev pub effect : RanAnswer → List ℕ → List ℕ → List ℕ → List ℕ → Ended
 effect r t es ws cs = record { good = r.good; answer = r.answer; box = box_of r.counters t r.nursery es ws cs }
 
-abbrev pub bad_item : Counters → Nursery → Ran
+abbrev pub bad_item : Counters → Nursery → RanAnswer
 bad_item c n = record { good = false; answer = Refused Broken; counters = c; nursery = n }
 
 -- a step by the call, or none

@@ -13,8 +13,7 @@ use Rattle.base.specs.Bytes.{cut}
 use Rattle.node_box.specs.Box.{Box, Call}
 use Rattle.box_lines.specs.declared.Line.{Line}
 use Rattle.box_lines.specs.Lines.{kind_of, body_len}
-use Rattle.box_items.specs.declared.Ran.{Ran}
-use Rattle.box_items.specs.Items.{call_of, Ended, effect, ran, item_call, line_of, Turn, turn_effect, turn, lines_from}
+use Rattle.box_items.specs.Items.{RanAnswer, call_of, Ended, effect, ran, item_call, line_of, Turn, turn_effect, turn, lines_from}
 
 -- ---- the item that bytes begin with
 
@@ -39,7 +38,7 @@ module _ (bs : List ℕ) where
       rw (e, n) (ap (λ (o : Option Call). ran b o) (sym (item-there h (omega arith))))
 
   -- with its line
-  pub item-turn : (b : Box) (place kind : ℕ) (l : Line) (r : Ran) (t es ws cs : List ℕ) → effect r t es ws cs ≡ ran b (item_call bs) → kind ≡ kind_of bs
+  pub item-turn : (b : Box) (place kind : ℕ) (l : Line) (r : RanAnswer) (t es ws cs : List ℕ) → effect r t es ws cs ≡ ran b (item_call bs) → kind ≡ kind_of bs
       → l ≡ line_of place kind r.answer r.counters
       → turn_effect (record { line = l; good = r.good; counters = r.counters; nursery = r.nursery }) t es ws cs ≡ turn b place bs
   unfolding turn

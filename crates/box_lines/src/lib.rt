@@ -51,11 +51,7 @@ pub fn body_len(bytes: &[u8]) -> usize
 fn fitting(n: usize, room: usize, at: usize) -> usize
     ensures { result ≡ min n (room - at) }
 {
-    if room <= at {
-        return 0;
-    }
-    let left = room - at;
-    if n < left { n } else { left }
+    n.min(room.saturating_sub(at))
 }
 
 // Bytes go behind the text in the output.
@@ -64,10 +60,8 @@ pub fn put(out: &mut [u8], p: Printed, bytes: &[u8]) -> Printed
 {
     let at = p.len;
     let n = fitting(bytes.len(), out.len(), at);
-    let mut i = 0;
-    while i < n {
+    for i in 0..n {
         out[at + i] = bytes[i];
-        i += 1;
     }
     Printed {
         len: at + n,

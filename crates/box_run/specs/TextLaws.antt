@@ -1,19 +1,28 @@
 -- The text of a run, item by item, as the loop over an input puts it into an output.
 -- Assumes nothing.
-use Rattle.std.specs.Prelude.{◌≡◌, Bool, true, false, ℕ, suc, ◌+◌, ◌-◌, ◌*◌, ◌≤◌, ◌<◌, length, take, drop}
+use Rattle.std.specs.Prelude.{◌≡◌, refl, Bool, true, false, ℕ, suc, ◌+◌, ◌-◌, ◌*◌, ◌≤◌, ◌<◌, length, take, drop, Result, Ok, Err, IsOk}
 use Rattle.std.proofs.Math.Path.{sym, ap}
-use Rattle.std.proofs.Common.{ap₂, ◌∙◌, add-one, arith, drop_of_length-le, take_all}
+use Rattle.std.proofs.Common.{true≢false, ap₂, ◌∙◌, add-one, arith, drop_of_length-le, take_all}
 use mathlib.Core.List.{List, [], ◌++◌}
 use Rattle.std.proofs.Math.ListN.{length-drop}
 use Rattle.std.proofs.Math.Seq.{drop-drop}
 use Rattle.base.specs.Logic.{pick, flat, zeros}
-use Rattle.counters.specs.declared.Applied.{Applied}
-use Rattle.counters.specs.Maintenance.{standard}
+use Rattle.base.specs.Answers.{Taken, Refused}
+use Rattle.base.specs.declared.Refusal.{Refusal}
+use Rattle.counters.specs.declared.Counters.{Counters}
+use Rattle.counters.specs.Returned.{Applied, as_applied}
+use Rattle.counters.proofs.CallLaws as CountersLaws
+use Rattle.counters.specs.Calls.{no_counters}
+use Rattle.counters.specs.Maintenance.{standard, in_range}
 use Rattle.counters.specs.Calls as counters
 use Rattle.cell_nursery.specs.Drain.{promotion_delay}
-use Rattle.cell_nursery.specs.declared.Committed.{Committed}
+use Rattle.cell_nursery.specs.declared.Nursery.{Nursery}
+use Rattle.cell_nursery.specs.Entries.{empty}
+use Rattle.cell_nursery.specs.Layout.{record_of, delay_in_range}
+use Rattle.cell_nursery.proofs.SettingLaws as SettingLaws
+use Rattle.cell_nursery.specs.Returned.{Committed, as_committed}
 use Rattle.cell_nursery.specs.Calls as nursery
-use Rattle.node_box.specs.Box.{standard_settings, Box, made}
+use Rattle.node_box.specs.Box.{standard_settings, Box, accepted, made}
 use Rattle.box_lines.specs.declared.Line.{Line}
 use Rattle.box_lines.specs.Lines.{body_len, line_text, heading, Output, nothing, append}
 use Rattle.box_lines.specs.LineLaws.{append-none, append-join, append-then}
@@ -81,6 +90,21 @@ module _ (b : Box) (place at : ℕ) (input : List ℕ) (o p r : Output) (n : Nex
     text-good =
         rw (add-one place, ← drop-drop (6 + len) at input, len-there)
         (ap (λ (c : Bool). append (flat line_text (pick c rest [])) p) (sym good) ∙ step)
+
+-- document 01's settings and its delay are in their ranges, so that neither call is refused
+not_refused : (q : Refusal) → Refused q ≡ Taken → ⊥
+unfolding accepted
+not_refused q p = true≢false (sym (ap accepted p))
+
+pub counters-made : (a : Result Counters Refusal) (t u : List ℕ) → counters.effect (as_applied no_counters a) u ≡ counters.new_call standard (record { 0 = 0 }) t → IsOk a
+unfolding counters.laid in_range standard
+counters-made (Ok d) t u e = refl
+counters-made (Err q) t u e = absurd (not_refused q (ap (λ (x : counters.Changed). x.result.answer) (e ∙ CountersLaws.new-taken standard (record { 0 = 0 }) t refl)))
+
+pub nursery-made : (a : Result Nursery Refusal) (es ws cs fs xs ds : List ℕ) → nursery.effect (as_committed (record_of 0 empty) a) fs xs ds ≡ nursery.new_call promotion_delay es ws cs → IsOk a
+unfolding nursery.laid delay_in_range
+nursery-made (Ok d) es ws cs fs xs ds e = refl
+nursery-made (Err q) es ws cs fs xs ds e = absurd (not_refused q (ap (λ (x : nursery.Changed). x.result.answer) (e ∙ SettingLaws.new-taken promotion_delay es ws cs refl)))
 
 -- a fresh box, by what the two calls gave
 pub fresh-made : (a : Applied) (k : Committed) (t es ws cs u fs xs ds : List ℕ) → counters.effect a u ≡ counters.new_call standard (record { 0 = 0 }) t

@@ -38,10 +38,8 @@ pub fn fresh(t: &mut [u64], es: &mut [u64], ws: &mut [u64], cs: &mut [u8]) -> Re
         max: SHRINK_MAX,
         good_save: GOOD_SAVE,
     };
-    let none = counter_table::new(NextIdx(0), settings, t);
-    let empty = nursery_table::new(DELAY, es, ws, cs);
-    let counters = none.counters;
-    let nursery = empty.nursery;
+    let counters = counter_table::new(NextIdx(0), settings, t).unwrap();
+    let nursery = nursery_table::new(DELAY, es, ws, cs).unwrap();
     Records { counters, nursery }
 }
 
@@ -71,10 +69,8 @@ fn run_items(
         if !n.good {
             return printed;
         }
-        let c = n.counters;
-        counters = c;
-        let y = n.nursery;
-        nursery = y;
+        counters = n.counters;
+        nursery = n.nursery;
         place += 1;
         at += 6 + body_len(&input[at..]);
     }

@@ -4,90 +4,78 @@
 // The files `stdin` and `stdout` are document 01's run.
 #![tactic(auto)]
 
-ghost use Rattle.std.specs.Prelude.{◌≤◌, length};
+ghost use Rattle.std.specs.Prelude.{◌≤◌, length, IfOk};
 
 use box_items::{Next, run_next};
 use box_lines::{Line, Printed, body_len, put_heading, put_line};
 use cell_nursery::Nursery;
 use counters::Counters;
 use std::io::Read;
+use std::{fmt, io};
 
-// How many of the bytes that were asked for came, and whether a read failed.
-#[derive(Clone, Copy)]
-struct Got {
-    len: usize,
-    failed: bool,
+// What ends a run that neither the input's end nor a bad item ends.
+#[derive(Drop)]
+enum Failure {
+    Input(io::Error),
+    Output(io::Error),
+    TooMany,
 }
 
-// Reads until the buffer is full or the input ends. A read that fails is no end, and is told on standard error.
-fn read_all(rt: &impl Eprint, input: &mut impl Read, buf: &mut [u8]) -> Got
-    ensures { result.len ≤ length buf.new }
+impl fmt::Display for Failure {
+    fn fmt<W: fmt::Write>(&self, f: &mut fmt::Formatter<W>) -> fmt::Result {
+        match self {
+            Failure::Input(e) => write!(f, "standard input: {e}"),
+            Failure::Output(e) => write!(f, "standard output: {e}"),
+            Failure::TooMany => write!(f, "too many items"),
+        }
+    }
+}
+
+// Reads until the buffer is full or the input ends; how many bytes came.
+fn read_all(input: &mut impl Read, buf: &mut [u8]) -> io::Result<usize>
+    ensures { IfOk result (λ n. n ≤ length buf.new) }
 {
     let mut len = 0;
     while len < buf.len() {
-        match input.read(&mut buf[len..]) {
-            Ok(0) => return Got { len, failed: false },
-            Ok(n) => len += n,
-            Err(e) => {
-                let _ = eprintln!(rt; "boxrun: standard input: {e}");
-                return Got { len, failed: true };
-            }
+        match input.read(&mut buf[len..])? {
+            0 => return Ok(len),
+            n => len += n,
         }
     }
-    Got { len, failed: false }
+    Ok(len)
 }
 
 // Reads an item: its six bytes, then its body, but none that is longer than there is room for.
-fn read_item(rt: &impl Eprint, input: &mut impl Read, bytes: &mut [u8]) -> Got
-    ensures { result.len ≤ length bytes.new }
+fn read_item(input: &mut impl Read, bytes: &mut [u8]) -> io::Result<usize>
+    requires { 6 ≤ length bytes.old }
+    ensures { IfOk result (λ n. n ≤ length bytes.new) }
 {
-    if bytes.len() < 6 {
-        return Got {
-            len: 0,
-            failed: false,
-        };
-    }
-    let head = read_all(rt, input, &mut bytes[..6]);
-    if head.len < 6 {
-        return head;
+    let head = read_all(input, &mut bytes[..6])?;
+    if head < 6 {
+        return Ok(head);
     }
     let body = body_len(&bytes[..6]);
     if bytes.len() - 6 < body {
-        return Got {
-            len: 6,
-            failed: false,
-        };
+        return Ok(6);
     }
-    let rest = read_all(rt, input, &mut bytes[6..6 + body]);
-    Got {
-        len: 6 + rest.len,
-        failed: rest.failed,
-    }
+    let rest = read_all(input, &mut bytes[6..6 + body])?;
+    Ok(6 + rest)
 }
 
-// Writes the text at the start of a buffer. A write that fails is told on standard error.
-fn print(rt: &(impl Print + Eprint), text: &[u8], p: Printed) -> bool {
-    let n = p.len;
-    if text.len() < n {
-        return false;
-    }
-    match rt.write_all(&text[..n]) {
-        Ok(()) => true,
-        Err(e) => {
-            let _ = eprintln!(rt; "boxrun: standard output: {e}");
-            false
-        }
-    }
+// Writes the text at the start of a buffer.
+fn print(rt: &impl Print, text: &[u8], p: Printed) -> Result<(), Failure> {
+    let n = p.len.min(text.len());
+    rt.write_all(&text[..n]).map_err(|e| Failure::Output(e))
 }
 
-fn print_heading(rt: &(impl Print + Eprint)) -> bool {
+fn print_heading(rt: &impl Print) -> Result<(), Failure> {
     let mut text = [0u8; 28];
     let p = put_heading(&mut text);
     print(rt, &text, p)
 }
 
 // No line is longer: box_lines LineLaws.line-length.
-fn print_line(rt: &(impl Print + Eprint), l: Line) -> bool {
+fn print_line(rt: &impl Print, l: Line) -> Result<(), Failure> {
     let mut text = [0u8; 105];
     let none = Printed {
         len: 0,
@@ -97,48 +85,9 @@ fn print_line(rt: &(impl Print + Eprint), l: Line) -> bool {
     print(rt, &text, p)
 }
 
-// The end of the run.
-fn stop(counters: Counters, nursery: Nursery) -> Next {
-    Next {
-        line: Line {
-            place: 0,
-            kind: 0,
-            answer: 0,
-            next: 0,
-            live: 0,
-        },
-        good: false,
-        counters,
-        nursery,
-    }
-}
-
-// Runs the item that was read, and prints its line. There is none where the input ended before it.
-fn run_read(
-    rt: &(impl Print + Eprint),
-    counters: Counters,
-    nursery: Nursery,
-    t: &mut [u64; 2048],
-    es: &mut [u64; 2048],
-    ws: &mut [u64; 1280],
-    cs: &mut [u8; 16384],
-    place: u64,
-    bytes: &[u8],
-) -> Next {
-    if bytes.len() == 0 {
-        return stop(counters, nursery);
-    }
-    let n = run_next(counters, nursery, t, es, ws, cs, place, bytes);
-    let line = n.line;
-    if !print_line(rt, line) {
-        return stop(counters, nursery);
-    }
-    n
-}
-
-// One item, of which there is room for the longest body.
+// Runs one item, of which there is room for the longest body, and prints its line. There is none where the input has ended.
 fn turn(
-    rt: &(impl Print + Eprint),
+    rt: &impl Print,
     input: &mut impl Read,
     counters: Counters,
     nursery: Nursery,
@@ -147,18 +96,19 @@ fn turn(
     ws: &mut [u64; 1280],
     cs: &mut [u8; 16384],
     place: u64,
-) -> Next {
+) -> Result<Option<Next>, Failure> {
     let mut bytes = [0u8; 32774];
-    let got = read_item(rt, input, &mut bytes);
-    if got.failed {
-        return stop(counters, nursery);
+    let n = read_item(input, &mut bytes).map_err(|e| Failure::Input(e))?;
+    if n == 0 {
+        return Ok(None);
     }
-    let n = got.len;
-    run_read(rt, counters, nursery, t, es, ws, cs, place, &bytes[..n])
+    let next = run_next(counters, nursery, t, es, ws, cs, place, &bytes[..n]);
+    print_line(rt, next.line)?;
+    Ok(Some(next))
 }
 
 // Room for 1,024 counts, 256 entries and 16,384 cell bytes.
-fn main(rt: HostRuntime) {
+fn run(rt: &impl Print, input: &mut impl Read) -> Result<(), Failure> {
     let mut t = [0u64; 2048];
     let mut es = [0u64; 2048];
     let mut ws = [0u64; 1280];
@@ -166,21 +116,27 @@ fn main(rt: HostRuntime) {
     let fresh = box_run::fresh(&mut t, &mut es, &mut ws, &mut cs);
     let mut counters = fresh.counters;
     let mut nursery = fresh.nursery;
-    if !print_heading(&rt) {
-        return;
-    }
-    let mut input = rt.stdin();
+    print_heading(rt)?;
     for place in 0..u64::MAX {
-        let n = turn(
-            &rt, &mut input, counters, nursery, &mut t, &mut es, &mut ws, &mut cs, place,
-        );
-        if !n.good {
-            return;
+        let after = turn(
+            rt, input, counters, nursery, &mut t, &mut es, &mut ws, &mut cs, place,
+        )?;
+        let Some(next) = after else {
+            return Ok(());
+        };
+        if !next.good {
+            return Ok(());
         }
-        let c = n.counters;
-        counters = c;
-        let y = n.nursery;
-        nursery = y;
+        counters = next.counters;
+        nursery = next.nursery;
     }
-    let _ = eprintln!(rt; "boxrun: too many items");
+    Err(Failure::TooMany)
+}
+
+// What fails is told on standard error.
+fn main(rt: HostRuntime) {
+    let mut input = rt.stdin();
+    if let Err(failure) = run(&rt, &mut input) {
+        let _ = eprintln!(rt; "boxrun: {failure}");
+    }
 }

@@ -9,12 +9,10 @@ use std::rt::Files;
 
 // A write that fails changes nothing here.
 fn print(rt: &impl Print, out: &[u8], p: Printed) {
-    let n = p.len;
-    if n <= out.len() {
-        let _ = rt.write_all(&out[..n]);
-    }
+    let n = p.len.min(out.len());
+    let _ = rt.write_all(&out[..n]);
     if !p.whole {
-        let _ = rt.write_all(b"|\n");
+        let _ = rt.println("|");
     }
 }
 

@@ -1,14 +1,15 @@
 -- Laws of answers and lines, over lists: what a step of the code does.
 -- Assumes nothing.
-use Rattle.std.specs.Prelude.{◌≡◌, ℕ, zero, suc, ◌+◌, ◌-◌, ◌*◌, ◌/◌, ◌%◌, ◌<◌, ◌≤◌, Bool, true, false, List, [], ◌∷◌, length, take, drop, set, ◌==◌, ◌≢◌, nat_le, slice_index, slice_set, refl}
-use Rattle.std.proofs.Common.{sym, ap, ◌∙◌, add-zero, zero-add, add-one, arith}
+use Rattle.std.specs.Prelude.{◌≡◌, ℕ, zero, suc, ◌+◌, ◌-◌, ◌*◌, ◌/◌, ◌%◌, ◌<◌, ◌≤◌, Bool, true, false, List, [], ◌∷◌, length, take, drop, set, ◌==◌, ◌≢◌, nat_le, slice_index, slice_set, Option, Some, None, is_some, IsSome, IfSome, unwrap_or, not, eqb, refl}
+use Rattle.std.proofs.Common.{sym, ap, ◌∙◌, add-zero, zero-add, add-one, eqb-true, arith}
 use borrow.Author.Tests.{le-leb, lt-leb, leb-true, eq-eqb, ne_eqb}
+use Rattle.std.specs.Option.{option_eq}
 use Rattle.std.proofs.Math.ListN.{drop_of_length-le}
 use Rattle.std.proofs.Math.Seq.{paste, drop-cons}
 use Rattle.base.specs.Logic.{fold, all, eqb_list, overlay}
 use Rattle.base.specs.Bytes.{le64, unle}
 use Rattle.base.specs.Laws.{length_digits, and_left, and_right}
-use Rattle.slices.specs.Laws.{paste-one, paste-start, eqb_list-lengths}
+use Rattle.slices.specs.Laws.{paste-start, eqb_list-lengths}
 use Rattle.slices.specs.Turns.{copy-turn}
 use Rattle.call_lists.specs.Answers.{word_at, Answer, up_to, with_bytes, with_word, with_words}
 use Rattle.call_lists.specs.Lines.{line_length, line_end, digit_of, pair_of, pairs_of, is_byte, is_hex, decoded, spells_bytes}
@@ -26,27 +27,28 @@ word-missing call at h = rw h
 -- ---- answers
 
 pub bytes-put : (bs : List ℕ) (at n : ℕ) (out : List ℕ) → length bs ≡ n → nat_le (at + n) (length out) ≡ true
-    → up_to (at + n) (paste out at bs n) ≡ with_bytes bs (up_to at out)
+    → up_to (Some (at + n)) (paste out at bs n) ≡ with_bytes bs (up_to (Some at) out)
 unfolding with_bytes
 bytes-put bs at n out e h = rw (e, h)
 
-pub bytes-none : (bs : List ℕ) (at n : ℕ) (out : List ℕ) → length bs ≡ n → nat_le (at + n) (length out) ≡ false → up_to 300000 out ≡ with_bytes bs (up_to at out)
+pub bytes-none : (bs : List ℕ) (at n : ℕ) (out : List ℕ) → length bs ≡ n → nat_le (at + n) (length out) ≡ false → up_to None out ≡ with_bytes bs (up_to (Some at) out)
 unfolding with_bytes
 bytes-none bs at n out e h = rw (e, h)
 
-pub byte_put : (b at : ℕ) (out : List ℕ) → at < length out → up_to (at + 1) (slice_set out at b) ≡ with_bytes (b ∷ []) (up_to at out)
-byte_put b at out h = rw (← paste-one out at b h) (bytes-put (b ∷ []) at 1 out refl (le-leb (at + 1) (length out) (omega arith)))
-
-pub byte-none : (b at : ℕ) (out : List ℕ) → length out ≤ at → up_to 300000 out ≡ with_bytes (b ∷ []) (up_to at out)
-byte-none b at out h = bytes-none (b ∷ []) at 1 out refl (lt-leb (at + 1) (length out) (omega arith))
-
-pub word-put : (w at : ℕ) (out : List ℕ) → nat_le (at + 8) (length out) ≡ true → up_to (at + 8) (paste out at (le64 w) 8) ≡ with_word w (up_to at out)
+pub word-put : (w at : ℕ) (out : List ℕ) → nat_le (at + 8) (length out) ≡ true → up_to (Some (at + 8)) (paste out at (le64 w) 8) ≡ with_word w (up_to (Some at) out)
 unfolding with_word
 word-put w at out h = bytes-put (le64 w) at 8 out (length_digits 256 8 w) h
 
-pub word_none : (w at : ℕ) (out : List ℕ) → nat_le (at + 8) (length out) ≡ false → up_to 300000 out ≡ with_word w (up_to at out)
+pub word_none : (w at : ℕ) (out : List ℕ) → nat_le (at + 8) (length out) ≡ false → up_to None out ≡ with_word w (up_to (Some at) out)
 unfolding with_word
 word_none w at out h = bytes-none (le64 w) at 8 out (length_digits 256 8 w) h
+
+-- an answer that has found no room stays as it is
+
+pub words-none : (ws : List ℕ) (out : List ℕ) → up_to None out ≡ with_words ws (up_to None out)
+unfolding with_words fold with_word with_bytes
+words-none [] out = refl
+words-none (w ∷ ws) out = words-none ws out
 
 -- the words that are left, put behind those so far, give the answer
 
@@ -54,6 +56,11 @@ pub words-turn : (ws : List ℕ) (i : ℕ) (a b r : Answer) → with_words (drop
 unfolding with_words fold
 words-turn ws i a b r e f h =
     rw (f, add-one i) (ap (λ (l : List ℕ). with_words l a) (sym (drop-cons ws i 0 h)) ∙ e)
+
+-- a word that finds no room ends the answer
+
+pub words-cut : (ws : List ℕ) (i : ℕ) (a r : Answer) (out : List ℕ) → with_words (drop i ws) a ≡ r → up_to None out ≡ with_word (slice_index ws i) a → i < length ws → up_to None out ≡ r
+words-cut ws i a r out e f h = words-none (drop (i + 1) ws) out ∙ words-turn ws i a (up_to None out) r e f h
 
 pub words-end : (ws : List ℕ) (i : ℕ) (a r : Answer) → with_words (drop i ws) a ≡ r → length ws ≤ i → a ≡ r
 unfolding with_words fold
@@ -130,6 +137,18 @@ pub hex-turn : (p : List ℕ) (n : ℕ) {r : Bool} → all is_byte (drop n p) �
 unfolding all
 hex-turn p n e h k = rw (add-one n) (rw (drop-cons p n 0 h, le-leb (slice_index p n) 255 k) at e)
 
+pub not-a-byte : (o : Option ℕ) (v : ℕ) → unwrap_or o 256 ≡ v → is_some o ≡ false → 255 < v
+not-a-byte None v e f = omega (arith, e)
+not-a-byte (Some b) v e f = cc
+
+pub a-byte : (o : Option ℕ) (v : ℕ) → unwrap_or o 256 ≡ v → IfSome o (λ b. b ≤ 255) → is_some o ≡ true → v ≤ 255
+a-byte None v e h f = cc
+a-byte (Some b) v e h f = omega (arith, e, h)
+
+pub has-byte : (o : Option ℕ) (v : ℕ) → unwrap_or o 256 ≡ v → v ≤ 255 → IsSome o
+has-byte None v e h = absurd (omega (arith, e))
+has-byte (Some b) v e h = refl
+
 pub hex-none : (t : List ℕ) (n : ℕ) → all is_byte (drop n (pairs_of t)) ≡ all is_byte (pairs_of t) → n < length t / 2 → 255 < slice_index (pairs_of t) n → false ≡ is_hex t
 unfolding is_hex all
 hex-none t n e h k = rw (← e, drop-cons (pairs_of t) n 0 (rw (length_pairs t) h), lt-leb (slice_index (pairs_of t) n) 255 k)
@@ -174,6 +193,18 @@ pub decode-end : (t out₀ out d : List ℕ) (n : ℕ) → out ≡ paste out₀ 
 decode-end t out₀ out d n e f g = e ∙ paste-start out₀ (pairs_of t) n (length_pairs t ∙ sym f) ∙ ap (λ (l : List ℕ). overlay l out₀) g
 
 -- ---- the comparison
+
+pub pair-differs : (o : Option ℕ) (b v : ℕ) → unwrap_or o 256 ≡ v → b ≤ 255 → true ≡ not (option_eq eqb o (Some b)) → v ≢ b
+pair-differs None b v e h f = λ k. omega (arith, e, k, h)
+pair-differs (Some x) b v e h f = λ k. let g = rw (eq-eqb x b (e ∙ k)) at f in cc
+
+pub pair-same : (o : Option ℕ) (b v : ℕ) → unwrap_or o 256 ≡ v → false ≡ not (option_eq eqb o (Some b)) → v ≡ b
+pair-same None b v e f = cc
+pair-same (Some x) b v e f = sym e ∙ go (x == b) refl
+  where
+    go : (c : Bool) → (x == b) ≡ c → x ≡ b
+    go true g = eqb-true x b g
+    go false g = let k = rw g at f in cc
 
 module _ (t bs : List ℕ) where
   pub spells-not-hex : is_hex t ≡ false → false ≡ spells_bytes t bs

@@ -1,5 +1,5 @@
 // A list is lines of text, most of them bytes in hex.
-ghost use Rattle.std.specs.Prelude.{◌≡◌, ◌/◌, ◌<◌, ◌≤◌, length, nat_le, slice_index};
+ghost use Rattle.std.specs.Prelude.{◌≡◌, ◌/◌, ◌<◌, ◌≤◌, length, nat_le, slice_index, unwrap_or, IfSome};
 ghost use Rattle.base.specs.Logic.{pick, overlay};
 ghost use Rattle.call_lists.specs.Lines.{line_end, line_after, digit_of, pair_of, pairs_of, is_hex, decoded, spells_bytes};
 
@@ -8,14 +8,12 @@ pub fn line_end(s: &[u8], at: usize) -> usize
     requires { at ≤ length s.now }
     ensures { (at ≤ result) × (result ≤ length s.now) × (result ≡ line_end s.now at) }
 {
-    let mut i = at;
-    while i < s.len() {
+    for i in at..s.len() {
         if s[i] == b'\n' {
             return i;
         }
-        i += 1;
     }
-    i
+    s.len()
 }
 
 // Where the line after the one that ends at `end` begins.
@@ -26,36 +24,30 @@ pub fn line_after(s: &[u8], end: usize) -> usize
     if end < s.len() { end + 1 } else { end }
 }
 
-// The value of a digit, and 16 for anything else.
-fn digit(b: u8) -> u16
-    ensures { (result ≤ 16) × (result ≡ digit_of b) }
+// The value of a digit, if it is one.
+fn digit(b: u8) -> Option<u8>
+    ensures { (unwrap_or result 16 ≡ digit_of b) × IfSome result (λ d. d ≤ 15) }
 {
     match b {
-        b'0'..=b'9' => (b - b'0') as u16,
-        b'a'..=b'f' => (b - b'a') as u16 + 10,
-        _ => 16,
+        b'0'..=b'9' => Some(b - b'0'),
+        b'a'..=b'f' => Some(b - b'a' + 10),
+        _ => None,
     }
 }
 
-// The byte of two digits, and 256 where one is none.
-fn pair(high: u8, low: u8) -> u16
-    ensures { result ≡ pair_of high low }
+// The byte of two digits, if both are digits.
+fn pair(high: u8, low: u8) -> Option<u8>
+    ensures { (unwrap_or result 256 ≡ pair_of high low) × IfSome result (λ b. b ≤ 255) }
 {
-    let h = digit(high);
-    let l = digit(low);
-    if 15 < h {
-        return 256;
-    }
-    if 15 < l {
-        return 256;
-    }
-    16 * h + l
+    let h = digit(high)?;
+    let l = digit(low)?;
+    Some(16 * h + l)
 }
 
 // The same of a text's pair at index n.
-fn pair_at(text: &[u8], n: usize) -> u16
+fn pair_at(text: &[u8], n: usize) -> Option<u8>
     requires { n < length text.now / 2 }
-    ensures { result ≡ slice_index (pairs_of text.now) n }
+    ensures { (unwrap_or result 256 ≡ slice_index (pairs_of text.now) n) × IfSome result (λ b. b ≤ 255) }
 {
     pair(text[2 * n], text[2 * n + 1])
 }
@@ -64,12 +56,10 @@ fn pair_at(text: &[u8], n: usize) -> u16
 fn is_hex(text: &[u8]) -> bool
     ensures { result ≡ is_hex text.now }
 {
-    let mut n = 0;
-    while n < text.len() / 2 {
-        if 255 < pair_at(text, n) {
+    for n in 0..text.len() / 2 {
+        if pair_at(text, n).is_none() {
             return false;
         }
-        n += 1;
     }
     text.len() % 2 == 0
 }
@@ -79,18 +69,17 @@ pub fn decode(text: &[u8], out: &mut [u8]) -> usize
     ensures { (result ≤ length out.new) × (result ≡ length (decoded text.now (length out.old)))
         × (out.new ≡ overlay (decoded text.now (length out.old)) out.old) }
 {
-    if out.len() < text.len() / 2 {
+    let len = text.len() / 2;
+    if out.len() < len {
         return 0;
     }
     if !is_hex(text) {
         return 0;
     }
-    let mut n = 0;
-    while n < text.len() / 2 {
-        out[n] = pair_at(text, n) as u8;
-        n += 1;
+    for n in 0..len {
+        out[n] = pair_at(text, n).unwrap();
     }
-    n
+    len
 }
 
 // How many bytes a text spells if it is pairs of digits; 0 where `room` is too small for them.
@@ -111,12 +100,10 @@ pub fn spells(text: &[u8], bytes: &[u8]) -> bool
     if text.len() / 2 != bytes.len() {
         return false;
     }
-    let mut n = 0;
-    while n < bytes.len() {
-        if pair_at(text, n) != bytes[n] as u16 {
+    for n in 0..bytes.len() {
+        if pair_at(text, n) != Some(bytes[n]) {
             return false;
         }
-        n += 1;
     }
     true
 }

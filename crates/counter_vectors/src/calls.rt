@@ -2,7 +2,7 @@
 ghost use Rattle.std.specs.Prelude.{◌≡◌, ◌≤◌, length};
 
 use batch_abi::selvaigo_apply_batch;
-use call_lists::answers::{NONE, put, put_byte, put_one, put_words, word};
+use call_lists::answers::{put, put_byte, put_words, word};
 use counters_abi::{selvaigo_alloc_idx, selvaigo_get, selvaigo_new};
 use reading_abi::{selvaigo_deserialize_trusted, selvaigo_load_snapshot};
 use shrink_abi::selvaigo_shrink_if_needed;
@@ -15,10 +15,10 @@ pub(crate) fn counts_room() -> [u64; 8201]
     [0; 8201]
 }
 
-fn alloc_idx(state: &mut [u64; 16], out: &mut [u8]) -> usize {
+fn alloc_idx(state: &mut [u64; 16], out: &mut [u8]) -> Option<usize> {
     let mut idx = [7u64; 1];
     let number = selvaigo_alloc_idx(state, &mut idx);
-    put_one(out, number, &idx)
+    put(out, number, &idx)
 }
 
 fn shrink(state: &mut [u64; 16], counts: &[u64], saved: u64) -> u8 {
@@ -39,10 +39,8 @@ fn word_or_last(call: &[u8], i: usize) -> u64 {
 
 // The call's words from one on, and its last word to the end.
 fn fill(t: &mut [u64], call: &[u8], from: usize) {
-    let mut i = 0;
-    while i < t.len() {
+    for i in 0..t.len() {
         t[i] = word_or_last(call, std::num::wrapping_add_usize(from, i));
-        i += 1;
     }
 }
 
@@ -91,11 +89,11 @@ fn load_snapshot(
     counts: &mut [u64; 8201],
     snapshot: &[u8],
     out: &mut [u8],
-) -> usize {
+) -> Option<usize> {
     let mut old_total = [7u64; 1];
     let g = *settings;
     let number = selvaigo_load_snapshot(snapshot, g[0], g[1], g[2], state, counts, &mut old_total);
-    put_one(out, number, &old_total)
+    put(out, number, &old_total)
 }
 
 // Calls that may change the table, and give a number alone.
@@ -114,26 +112,26 @@ fn change(
     }
 }
 
-fn get(state: &[u64; 16], counts: &[u64], idx: u64, out: &mut [u8]) -> usize {
+fn get(state: &[u64; 16], counts: &[u64], idx: u64, out: &mut [u8]) -> Option<usize> {
     let mut count = [7u64; 1];
     let number = selvaigo_get(state, counts, idx, &mut count);
-    put_one(out, number, &count)
+    put(out, number, &count)
 }
 
-fn serialize(state: &[u64; 16], counts: &[u64], out: &mut [u8]) -> usize {
+fn serialize(state: &[u64; 16], counts: &[u64], out: &mut [u8]) -> Option<usize> {
     if out.len() < 9 {
-        return NONE;
+        return None;
     }
     let mut len = [7u64; 1];
     let number = selvaigo_serialize(state, counts, &mut out[9..], &mut len);
-    put_one(out, number, &len);
-    out.len()
+    put(out, number, &len)?;
+    Some(out.len())
 }
 
-fn serialized_len(state: &[u64; 16], counts: &[u64], out: &mut [u8]) -> usize {
+fn serialized_len(state: &[u64; 16], counts: &[u64], out: &mut [u8]) -> Option<usize> {
     let mut len = [7u64; 1];
     let number = selvaigo_serialized_len(state, counts, &mut len);
-    put_one(out, number, &len)
+    put(out, number, &len)
 }
 
 // How many words a table has if those at its end that are the same count as one.
@@ -151,21 +149,21 @@ fn told(t: &[u64]) -> usize
 }
 
 // The record and the table, as `set` takes them.
-fn look(state: &[u64; 16], counts: &[u64], out: &mut [u8]) -> usize {
+fn look(state: &[u64; 16], counts: &[u64], out: &mut [u8]) -> Option<usize> {
     let n = told(counts);
-    let at = put(out, 0, state);
+    let at = put(out, 0, state)?;
     put_words(out, at, &counts[0..n])
 }
 
 // Calls that change nothing.
-fn read(kind: u8, state: &[u64; 16], counts: &[u64], call: &[u8], out: &mut [u8]) -> usize {
+fn read(kind: u8, state: &[u64; 16], counts: &[u64], call: &[u8], out: &mut [u8]) -> Option<usize> {
     match kind {
         7 => get(state, counts, word(call, 0), out),
         8 => serialize(state, counts, out),
         9 => look(state, counts, out),
         10 => put(out, 0, state),
         11 => serialized_len(state, counts, out),
-        _ => NONE,
+        _ => None,
     }
 }
 
@@ -176,7 +174,7 @@ pub(crate) fn answer(
     counts: &mut [u64; 8201],
     call: &[u8],
     out: &mut [u8],
-) -> usize {
+) -> Option<usize> {
     match kind {
         1..=4 => put_byte(out, 0, change(kind, settings, state, counts, call)),
         5 => alloc_idx(state, out),

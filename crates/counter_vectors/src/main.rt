@@ -19,25 +19,25 @@
 
 mod calls;
 
-use call_lists::answers::{NONE, room, text_room};
+use call_lists::answers::{room, text_room};
 use call_lists::files::read_file;
 use call_lists::lines::{decode, spelled, spells, step_at};
 use call_lists::tally::{Tally, counted, report};
 use calls::counts_room;
 use std::rt::Files;
 
-// The answer to a call, which a text spells; its length.
+// The answer to a call, which a text spells; its length, if it found room.
 fn answer(
     text: &[u8],
     settings: &mut [u64; 3],
     state: &mut [u64; 16],
     counts: &mut [u64; 8201],
     out: &mut [u8],
-) -> usize {
+) -> Option<usize> {
     let mut call = room();
     let n = decode(text, &mut call);
     if n < 1 {
-        return NONE;
+        return None;
     }
     calls::answer(call[0], settings, state, counts, &call[1..n], out)
 }
@@ -53,7 +53,7 @@ fn agrees(
     let mut room = room();
     let n = spelled(wanted);
     let out = &mut room[0..n];
-    answer(call, settings, state, counts, out) == n && spells(wanted, out)
+    answer(call, settings, state, counts, out) == Some(n) && spells(wanted, out)
 }
 
 // The steps of a list, one after the other on one record and table.

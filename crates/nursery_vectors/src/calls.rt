@@ -1,14 +1,12 @@
 // Calls on a nursery.
-use byte_slices::copy_at;
-use call_lists::answers::{
-    NONE, key_end, put, put_byte, put_bytes, put_one, put_three, put_two, word,
-};
+use call_lists::answers::{key_end, put, put_byte, put_bytes, word};
 use drain_abi::selvaigo_drain_promotable;
 use entries_abi::{selvaigo_get_data, selvaigo_get_idx};
 use listing_abi::selvaigo_snapshot_entries;
 use nursery_abi::{selvaigo_apply_commit, selvaigo_nursery_new};
 use reading_abi::selvaigo_read_journal;
 use record_abi::selvaigo_scan_journal;
+use slices::copy_at;
 
 // The call has the numbers of inserts and removes, and the items.
 fn apply_commit(
@@ -18,9 +16,9 @@ fn apply_commit(
     cells: &mut [u8; 2048],
     call: &[u8],
     out: &mut [u8],
-) -> usize {
+) -> Option<usize> {
     if call.len() < 16 {
-        return NONE;
+        return None;
     }
     let inserts = word(call, 0);
     let removes = word(call, 8);
@@ -28,7 +26,7 @@ fn apply_commit(
     let number = selvaigo_apply_commit(
         nursery, entries, waiting, cells, 0, inserts, removes, items,
     );
-    put_two(out, number, &[0, 0])
+    put(out, number, &[0, 0])
 }
 
 fn read_journal(
@@ -41,18 +39,18 @@ fn read_journal(
     cells: &mut [u8; 2048],
     journal: &[u8],
     out: &mut [u8],
-) -> usize {
+) -> Option<usize> {
     let mut read = [7u64; 3];
     let number = selvaigo_read_journal(
         keyed, key, journal, delay, nursery, entries, waiting, cells, &mut read,
     );
-    put_three(out, number, &read)
+    put(out, number, &read)
 }
 
-fn scan_journal(keyed: u8, key: &[u8], journal: &[u8], out: &mut [u8]) -> usize {
+fn scan_journal(keyed: u8, key: &[u8], journal: &[u8], out: &mut [u8]) -> Option<usize> {
     let mut scan = [7u64; 3];
     let number = selvaigo_scan_journal(keyed, key, journal, &mut scan);
-    put_three(out, number, &scan)
+    put(out, number, &scan)
 }
 
 // The two calls in a mode, which stands before the journal.
@@ -64,11 +62,8 @@ fn read_in_mode(
     cells: &mut [u8; 2048],
     call: &[u8],
     out: &mut [u8],
-) -> usize {
-    let end = key_end(call);
-    if end < 2 {
-        return NONE;
-    }
+) -> Option<usize> {
+    let end = key_end(call)?;
     let key = &call[2..end];
     let journal = &call[end..];
     read_journal(
@@ -76,11 +71,8 @@ fn read_in_mode(
     )
 }
 
-fn scan_in_mode(call: &[u8], out: &mut [u8]) -> usize {
-    let end = key_end(call);
-    if end < 2 {
-        return NONE;
-    }
+fn scan_in_mode(call: &[u8], out: &mut [u8]) -> Option<usize> {
+    let end = key_end(call)?;
     scan_journal(call[0], &call[2..end], &call[end..], out)
 }
 
@@ -91,16 +83,16 @@ fn drain(
     cells: &[u8],
     round: u64,
     out: &mut [u8],
-) -> usize {
+) -> Option<usize> {
     if out.len() < 9 {
-        return NONE;
+        return None;
     }
     let mut len = [7u64; 1];
     let born = (round % 4294967296) as u32;
     let body = &mut out[9..];
     let number = selvaigo_drain_promotable(nursery, entries, waiting, cells, born, body, &mut len);
-    put_one(out, number, &len);
-    out.len()
+    put(out, number, &len)?;
+    Some(out.len())
 }
 
 // The hash that a call has.
@@ -112,21 +104,21 @@ fn key(call: &[u8]) -> [u8; 32] {
     hash
 }
 
-fn get_idx(nursery: &[u64; 4], entries: &[u64], call: &[u8], out: &mut [u8]) -> usize {
+fn get_idx(nursery: &[u64; 4], entries: &[u64], call: &[u8], out: &mut [u8]) -> Option<usize> {
     let hash = key(call);
     let mut found = [7u64; 2];
     let number = selvaigo_get_idx(nursery, entries, &hash, &mut found);
-    put_two(out, number, &found)
+    put(out, number, &found)
 }
 
 // A cell's bytes go into the answer behind its number and a word.
-fn put_cell(out: &mut [u8], cells: &[u8], place: u64, len: u64) -> usize {
+fn put_cell(out: &mut [u8], cells: &[u8], place: u64, len: u64) -> Option<usize> {
     if (cells.len() as u64) < place {
-        return NONE;
+        return None;
     }
     let at = place as usize;
     if ((cells.len() - at) as u64) < len {
-        return NONE;
+        return None;
     }
     put_bytes(out, 9, &cells[at..at + len as usize])
 }
@@ -137,26 +129,26 @@ fn get_data(
     cells: &[u8],
     call: &[u8],
     out: &mut [u8],
-) -> usize {
+) -> Option<usize> {
     let hash = key(call);
     let mut found = [7u64; 3];
     let number = selvaigo_get_data(nursery, entries, cells, &hash, &mut found);
-    put(out, number, &[found[0]]);
+    put(out, number, &[found[0]])?;
     put_cell(out, cells, found[1], found[2])
 }
 
-fn listing(nursery: &[u64; 4], entries: &[u64], cells: &[u8], out: &mut [u8]) -> usize {
+fn listing(nursery: &[u64; 4], entries: &[u64], cells: &[u8], out: &mut [u8]) -> Option<usize> {
     if out.len() < 9 {
-        return NONE;
+        return None;
     }
     let mut len = [7u64; 1];
     let number = selvaigo_snapshot_entries(nursery, entries, cells, &mut out[9..], &mut len);
-    put_one(out, number, &len);
-    out.len()
+    put(out, number, &len)?;
+    Some(out.len())
 }
 
 // How many entries there are, and how many bytes their cells have.
-fn totals(nursery: &[u64; 4], out: &mut [u8]) -> usize {
+fn totals(nursery: &[u64; 4], out: &mut [u8]) -> Option<usize> {
     put(out, 0, &[nursery[0], nursery[2]])
 }
 
@@ -200,7 +192,7 @@ fn read(
     cells: &[u8],
     call: &[u8],
     out: &mut [u8],
-) -> usize {
+) -> Option<usize> {
     match kind {
         19 => get_idx(nursery, entries, call, out),
         20 => get_data(nursery, entries, cells, call, out),
@@ -209,7 +201,7 @@ fn read(
         27 => put(out, 0, nursery),
         25 => scan_journal(0, &[], call, out),
         29 => scan_in_mode(call, out),
-        _ => NONE,
+        _ => None,
     }
 }
 
@@ -222,7 +214,7 @@ pub(crate) fn answer(
     cells: &mut [u8; 2048],
     call: &[u8],
     out: &mut [u8],
-) -> usize {
+) -> Option<usize> {
     match kind {
         16 => apply_commit(nursery, entries, waiting, cells, call, out),
         17 => read_journal(

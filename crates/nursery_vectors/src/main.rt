@@ -20,13 +20,13 @@
 
 mod calls;
 
-use call_lists::answers::{NONE, room, text_room};
+use call_lists::answers::{room, text_room};
 use call_lists::files::read_file;
 use call_lists::lines::{decode, spelled, spells, step_at};
 use call_lists::tally::{Tally, counted, report};
 use std::rt::Files;
 
-// The answer to a call, which a text spells; its length.
+// The answer to a call, which a text spells; its length, if it found room.
 fn answer(
     text: &[u8],
     delay: &mut [u64; 1],
@@ -35,11 +35,11 @@ fn answer(
     waiting: &mut [u64; 160],
     cells: &mut [u8; 2048],
     out: &mut [u8],
-) -> usize {
+) -> Option<usize> {
     let mut call = room();
     let n = decode(text, &mut call);
     if n < 1 {
-        return NONE;
+        return None;
     }
     calls::answer(
         call[0],
@@ -66,7 +66,7 @@ fn agrees(
     let mut room = room();
     let n = spelled(wanted);
     let out = &mut room[0..n];
-    answer(call, delay, nursery, entries, waiting, cells, out) == n && spells(wanted, out)
+    answer(call, delay, nursery, entries, waiting, cells, out) == Some(n) && spells(wanted, out)
 }
 
 // The steps of a list, one after the other on one nursery: at first an empty one with room for 32 entries and 2,048 cell bytes, and a delay of 100.

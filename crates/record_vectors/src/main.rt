@@ -20,25 +20,25 @@
 mod bitmap_calls;
 mod calls;
 
-use call_lists::answers::{NONE, room, text_room};
+use call_lists::answers::{room, text_room};
 use call_lists::files::read_file;
 use call_lists::lines::{decode, spelled, spells, step_at};
 use call_lists::tally::{Tally, counted, report};
 use std::rt::Files;
 
-// The answer to a call, which a text spells; its length.
-fn answer(rt: &impl Files, text: &[u8], out: &mut [u8]) -> usize {
+// The answer to a call, which a text spells; its length, if it found room.
+fn answer(rt: &impl Files, text: &[u8], out: &mut [u8]) -> Option<usize> {
     let mut call = room();
     let n = decode(text, &mut call);
     if n < 1 {
-        return NONE;
+        return None;
     }
     let kind = call[0];
     let body = &call[1..n];
     match kind / 16 {
         2 => calls::answer(kind, body, out),
         3 => bitmap_calls::answer(rt, kind, body, out),
-        _ => NONE,
+        _ => None,
     }
 }
 
@@ -47,7 +47,7 @@ fn agrees(rt: &impl Files, call: &[u8], wanted: &[u8]) -> bool {
     let mut room = room();
     let n = spelled(wanted);
     let out = &mut room[0..n];
-    answer(rt, call, out) == n && spells(wanted, out)
+    answer(rt, call, out) == Some(n) && spells(wanted, out)
 }
 
 // The steps of a list, one after the other.

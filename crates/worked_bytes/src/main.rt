@@ -4,12 +4,12 @@
 
 ghost use Rattle.std.specs.Prelude.{◌≡◌, [], ◌∷◌};
 ghost use Rattle.counters.specs.Calls.{effect, batch_call};
+ghost use Rattle.counters.specs.Returned.{as_applied};
 ghost use Rattle.counters.specs.Maintenance.{adjusted};
 ghost use Rattle.counters.specs.Layout.{words_of};
 
-use counters::{
-    Applied, CounterMaintenance, CounterTransition, Counters, Idx, NextIdx, ShrinkSettings,
-};
+use base::{Refusal, answer_number};
+use counters::{CounterMaintenance, CounterTransition, Counters, Idx, NextIdx, ShrinkSettings};
 
 // The record after its threshold was moved through a loan.
 fn lent(m: CounterMaintenance, settings: ShrinkSettings, bytes_saved: u64) -> CounterMaintenance
@@ -21,8 +21,13 @@ fn lent(m: CounterMaintenance, settings: ShrinkSettings, bytes_saved: u64) -> Co
 }
 
 // A batch of two records, lent as a slice of them.
-fn recorded(c: Counters, t: &mut [u64], x: CounterTransition, y: CounterTransition) -> Applied
-    ensures { effect result t.new ≡ batch_call c t.old (words_of (x ∷ y ∷ [])) }
+fn recorded(
+    c: Counters,
+    t: &mut [u64],
+    x: CounterTransition,
+    y: CounterTransition,
+) -> Result<Counters, Refusal>
+    ensures { effect (as_applied c result) t.new ≡ batch_call c t.old (words_of (x ∷ y ∷ [])) }
 {
     let b = [x, y];
     counter_records::apply_batch(c, t, &b)
@@ -36,16 +41,7 @@ fn transition(idx: u64, old: u64, new: u64) -> CounterTransition {
     }
 }
 
-// A number and what ends it. A write that fails changes nothing here.
-fn field(rt: &impl Print, number: u64) {
-    let _ = print!(rt; "{number} ");
-}
-
-fn last_field(rt: &impl Print, number: u64) {
-    let _ = println!(rt; "{number}");
-}
-
-// A batch: its answer, the next index, the live total, the stored counts, and how long the snapshot is.
+// A batch: its answer, the next index, the live total, the stored counts, and how long the snapshot is. A write that fails changes nothing here.
 fn batch(
     rt: &impl Print,
     c: Counters,
@@ -53,15 +49,14 @@ fn batch(
     x: CounterTransition,
     y: CounterTransition,
 ) -> Counters {
-    let r = recorded(c, t, x, y);
-    let answer = r.answer;
-    let after = r.counters;
-    let w = snapshot_write::serialized_len(after, t);
-    field(rt, answer.number() as u64);
-    field(rt, after.next_idx.0);
-    field(rt, after.live_cells);
-    field(rt, after.stored as u64);
-    last_field(rt, w.len as u64);
+    let applied = recorded(c, t, x, y);
+    let number = answer_number(applied);
+    let after = applied.unwrap_or(c);
+    let next = after.next_idx.0;
+    let live = after.live_cells;
+    let stored = after.stored;
+    let len = snapshot_write::serialized_len(after, t).unwrap_or(0);
+    let _ = println!(rt; "{number} {next} {live} {stored} {len}");
     after
 }
 
@@ -73,31 +68,37 @@ fn adjust(
     bytes_saved: u64,
 ) -> CounterMaintenance {
     let after = lent(m, settings, bytes_saved);
-    last_field(rt, after.min_alive_removed_before_shrink);
+    let threshold = after.min_alive_removed_before_shrink;
+    let _ = println!(rt; "{threshold}");
     after
 }
 
 // Index 3 of 4 from nothing to 2, 256, 257 and 1, each beside a transition that is dropped though its index isn't allocated; then batches that are
 // refused, with births, deaths and counts accepted in between: `few` and `fewer` would leave more counts than cells, `even` and `whole` just as many.
-fn batches(rt: &impl Print, settings: ShrinkSettings) -> Counters {
+fn batches(rt: &impl Print, settings: ShrinkSettings) -> Result<Counters, Refusal> {
     let mut t = [0u64; 4];
-    let c = counter_table::new(NextIdx(4), settings, &mut t);
+    let mut c = counter_table::new(NextIdx(4), settings, &mut t)?;
     let dropped = transition(9, 7, 7);
-    let two = batch(rt, c.counters, &mut t, transition(3, 0, 2), dropped);
-    let most = batch(rt, two, &mut t, dropped, transition(3, 2, 256));
-    let large = batch(rt, most, &mut t, transition(3, 256, 257), dropped);
-    let one = batch(rt, large, &mut t, transition(3, 257, 1), dropped);
-    let far = batch(rt, one, &mut t, transition(0, 0, 2), transition(4, 0, 1));
-    let again = batch(rt, far, &mut t, transition(0, 0, 2), transition(0, 0, 3));
-    let untrue = batch(rt, again, &mut t, transition(0, 0, 2), transition(1, 2, 3));
-    let spent = batch(rt, untrue, &mut t, transition(2, 1, 0), transition(1, 1, 0));
-    let few = batch(rt, spent, &mut t, transition(2, 1, 2), transition(1, 1, 2));
-    let born = batch(rt, few, &mut t, transition(1, 0, 3), transition(0, 0, 1));
-    let full = batch(rt, born, &mut t, transition(2, 0, 2), transition(3, 1, 2));
-    let even = batch(rt, full, &mut t, transition(2, 1, 0), transition(3, 1, 0));
-    let fewer = batch(rt, even, &mut t, transition(2, 1, 0), dropped);
-    let whole = batch(rt, fewer, &mut t, transition(2, 1, 2), transition(3, 0, 1));
-    whole
+    let two = (transition(3, 0, 2), dropped);
+    let most = (dropped, transition(3, 2, 256));
+    let large = (transition(3, 256, 257), dropped);
+    let one = (transition(3, 257, 1), dropped);
+    let far = (transition(0, 0, 2), transition(4, 0, 1));
+    let again = (transition(0, 0, 2), transition(0, 0, 3));
+    let untrue = (transition(0, 0, 2), transition(1, 2, 3));
+    let spent = (transition(2, 1, 0), transition(1, 1, 0));
+    let few = (transition(2, 1, 2), transition(1, 1, 2));
+    let born = (transition(1, 0, 3), transition(0, 0, 1));
+    let full = (transition(2, 0, 2), transition(3, 1, 2));
+    let even = (transition(2, 1, 0), transition(3, 1, 0));
+    let fewer = (transition(2, 1, 0), dropped);
+    let whole = (transition(2, 1, 2), transition(3, 0, 1));
+    for (x, y) in [
+        two, most, large, one, far, again, untrue, spent, few, born, full, even, fewer, whole,
+    ] {
+        c = batch(rt, c, &mut t, x, y);
+    }
+    Ok(c)
 }
 
 fn settings(base: u64, max: u64, good_save: u64) -> ShrinkSettings {
@@ -113,9 +114,9 @@ fn others(rt: &impl Print, m: CounterMaintenance) {
     let mut at = m;
     at.min_alive_removed_before_shrink = 20;
     let g = settings(10, 35, 7);
-    let a = adjust(rt, at, g, 7);
-    let b = adjust(rt, a, g, 6);
-    adjust(rt, b, g, 6);
+    for bytes_saved in [7, 6, 6] {
+        at = adjust(rt, at, g, bytes_saved);
+    }
     at.min_alive_removed_before_shrink = 0x8000_0000_0000_0000;
     let far = settings(1, 0xFFFF_FFFF_FFFF_FFFF, 0xFFFF_FFFF_FFFF_FFFF);
     adjust(rt, at, far, 0);
@@ -123,14 +124,12 @@ fn others(rt: &impl Print, m: CounterMaintenance) {
 
 fn main(rt: HostRuntime) {
     let g = settings(131072, 2097152, 1048576);
-    let c = batches(&rt, g);
-    let m = adjust(&rt, c.maintenance, g, 0);
-    let n = adjust(&rt, m, g, 1048575);
-    let k = adjust(&rt, n, g, 1048576);
-    let a = adjust(&rt, k, g, 1);
-    let b = adjust(&rt, a, g, 1);
-    let d = adjust(&rt, b, g, 1);
-    let e = adjust(&rt, d, g, 1);
-    let f = adjust(&rt, e, g, 1);
-    others(&rt, f);
+    let Ok(c) = batches(&rt, g) else {
+        return;
+    };
+    let mut m = c.maintenance;
+    for bytes_saved in [0, 1048575, 1048576, 1, 1, 1, 1, 1] {
+        m = adjust(&rt, m, g, bytes_saved);
+    }
+    others(&rt, m);
 }

@@ -3,4 +3,4 @@
 use Rattle.box_items.proofs.line_of.Goals as goal
 
 pub returns : goal.returns
-returns c = rw c.number.ensures
+returns c = rw c.answer_number.ensures

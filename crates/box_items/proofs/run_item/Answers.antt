@@ -1,17 +1,18 @@
 -- `box_items::run_item`: each way out by its kind.
 -- Assumes nothing.
 use native.Mathlib.Omega.{arith}
+use Rattle.std.specs.Prelude.{refl}
 use mathlib.Core.Path.{sym, ap, ◌∙◌}
 use mathlib.Core.Option.{Option}
 use Rattle.node_box.specs.Box.{Call}
-use Rattle.box_items.specs.Items.{call_of, box_of, ran}
+use Rattle.box_items.specs.Items.{bad_item, call_of, box_of, ran}
 use Rattle.box_items.specs.ItemLaws.{call_long, call-allocate, call-batch, call-delta, call-drain, call-other, bad-ran}
 use Rattle.box_items.proofs.run_item.Goals as goal
 
 pub returns-then-body-gt32768 : goal.returns-then-body-gt32768
 returns-then-body-gt32768 c =
     let a = c.args in
-    bad-ran a.counters a.nursery a.t.now a.es.now a.ws.now a.cs.now c.bad.result (call_of a.kind a.body.now) c.bad.ensures (call_long a.kind a.body.now (omega arith))
+    bad-ran a.counters a.nursery a.t.now a.es.now a.ws.now a.cs.now (bad_item a.counters a.nursery) (call_of a.kind a.body.now) refl (call_long a.kind a.body.now (omega arith))
 
 pub returns-in-1 : goal.returns-in-1
 returns-in-1 c =
@@ -40,5 +41,5 @@ returns-in-4 c =
 pub returns-in_default : goal.returns-in_default
 returns-in_default c =
     let a = c.args in
-    bad-ran a.counters a.nursery a.t.now a.es.now a.ws.now a.cs.now c.bad-in_default.result (call_of a.kind a.body.now) c.bad-in_default.ensures
+    bad-ran a.counters a.nursery a.t.now a.es.now a.ws.now a.cs.now (bad_item a.counters a.nursery) (call_of a.kind a.body.now) refl
     (call-other a.kind a.body.now (omega arith) (λ e. omega arith) (λ e. omega arith) (λ e. omega arith) (λ e. omega arith))

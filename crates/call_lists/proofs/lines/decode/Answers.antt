@@ -1,10 +1,12 @@
+-- `call_lists::lines::decode`.
+-- Assumes nothing.
 use Rattle.std.proofs.Common.{◌≡◌, ◌/◌, [], length, sym, refl, ap, ◌∙◌, arith, rules}
 use Rattle.call_lists.specs.Lines.{pairs_of, decoded}
-use Rattle.call_lists.specs.Laws.{length_pairs, hex-byte, decoded-whole, decoded-no-room, decoded-none, none_over, decode-turn, decode-end}
+use Rattle.call_lists.specs.Laws.{length_pairs, hex-byte, has-byte, decoded-whole, decoded-no-room, decoded-none, none_over, decode-turn, decode-end}
 use Rattle.call_lists.proofs.lines.decode.Goals as goal
 
-pub returns-then-out-text : goal.returns-then-out-text
-returns-then-out-text c =
+pub returns-then-out-len : goal.returns-then-out-len
+returns-then-out-len c =
     let a = c.args in
     let e : [] ≡ decoded a.text.now (length a.out.now) = decoded-no-room a.text.now (length a.out.now) (omega arith) in
     (search rules, ap length e, none_over a.out.now _ e)
@@ -17,24 +19,20 @@ returns-then-not-is_hex c =
     (search rules, ap length e, none_over a.out.now _ e)
 
 pub loop-n-init : goal.loop-n-init
-loop-n-init c = (refl, search rules, search rules, sym c.is_hex.ensures ∙ c.if-not-is_hex.false, refl)
+loop-n-init c = (refl, sym c.is_hex.ensures ∙ c.if-not-is_hex.false, refl)
 
-pub overflow_cast-out : goal.overflow_cast-out
-overflow_cast-out c =
+pub unwrap-requires : goal.unwrap-requires
+unwrap-requires c =
     let l = c.loop-n in
-    let v = hex-byte c.args.text.now l.n l.invariant.3 (omega arith) in
-    let e = c.pair_at.ensures in
-    search rules
+    has-byte _ _ c.pair_at.ensures.0 (hex-byte c.args.text.now l.n l.invariant.1 (omega arith))
 
 pub loop-n-preserved : goal.loop-n-preserved
 loop-n-preserved c =
     let l = c.loop-n in
     let a = c.args in (
       search rules,
-      search rules,
-      search rules,
-      l.invariant.3,
-      decode-turn a.text.now a.out.now _ l.n _ l.invariant.4 c.pair_at.ensures (omega arith) (omega arith),
+      l.invariant.1,
+      decode-turn a.text.now a.out.now _ l.n _ l.invariant.2 (rw c.unwrap.ensures at c.pair_at.ensures.0) (omega arith) (omega arith),
     )
 
 pub returns : goal.returns
@@ -42,6 +40,6 @@ returns c =
     let l = c.loop-n in
     let a = c.args in
     let e : pairs_of a.text.now ≡ decoded a.text.now (length a.out.now) =
-    decoded-whole a.text.now (length a.out.now) l.invariant.2 l.invariant.3 in
+    decoded-whole a.text.now (length a.out.now) (omega arith) l.invariant.1 in
     let k : l.n ≡ length a.text.now / 2 = omega arith in
-    (search rules, k ∙ sym (length_pairs a.text.now) ∙ ap length e, decode-end a.text.now a.out.now _ _ l.n l.invariant.4 k e)
+    (search rules, sym (length_pairs a.text.now) ∙ ap length e, decode-end a.text.now a.out.now _ _ l.n l.invariant.2 k e)

@@ -6,4 +6,4 @@ use Rattle.call_lists.proofs.lines.pair_at.Goals as goal
 
 pub returns : goal.returns
 returns c =
-    c.pair.ensures ∙ pair-here c.args.text.now c.args.n c.requires
+    (c.pair.ensures.0 ∙ pair-here c.args.text.now c.args.n c.requires, c.pair.ensures.1)

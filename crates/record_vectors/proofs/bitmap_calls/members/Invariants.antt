@@ -1,11 +1,7 @@
--- `record_vectors::bitmap_calls::members`. The invariant: a cursor in the bitmap, and an answer as long as before. The measure: the members up to the bound.
+-- `record_vectors::bitmap_calls::members`. The invariant: a cursor in the bitmap.
 -- Assumes nothing.
-use Rattle.std.proofs.Common.{◌≡◌, ◌-◌, length}
 use Rattle.roaring_cursor.specs.Cursor.{Good}
 use Rattle.record_vectors.proofs.bitmap_calls.members.Given as goal
 
-abbrev pub invariant-loop-n : goal.invariant-loop-n
-invariant-loop-n l = (length l.out ≡ length l.initial.out) × Good l.s l.c
-
-abbrev pub decreases-loop-n : goal.decreases-loop-n
-decreases-loop-n l = 10000000 - l.n
+abbrev pub invariant-loop : goal.invariant-loop
+invariant-loop l = Good l.s l.c
