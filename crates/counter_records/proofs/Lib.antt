@@ -1,0 +1,2 @@
+-- `ReturnLaws`: what a batch that is over returns.
+mod ReturnLaws
