@@ -24,12 +24,14 @@ pub fn fill<T: Copy>(t: &mut [T], at: usize, n: usize, v: T)
     }
 }
 
-// All of s goes into `out` from index `at` on.
+// All of s goes into `out` from index `at` on. The library's copy of slices would have the archive for C ask for `memmove` from outside.
 pub fn copy_at<T: Copy>(out: &mut [T], at: usize, s: &[T])
     requires { at + length s.now ≤ length out.old }
     ensures { out.new ≡ paste out.old at s.now (length s.now) }
 {
-    out[at..at + s.len()].copy_from_slice(s);
+    for (j, x) in s.iter().enumerate() {
+        out[at + j] = *x;
+    }
 }
 
 // Whether every item from index `at` on is v. Every item is looked at, with no way out of the loop: so it takes several items a turn.
