@@ -1,11 +1,14 @@
 -- The checks of the lent tables as loops meet them: row after row, and test after test.
 -- Assumes nothing.
 use Rattle.std.specs.Prelude.{◌≡◌, refl, Bool, true, false, ◌&&◌, List, ◌∷◌, map, ℕ, ◌+◌, ◌-◌, ◌*◌, ◌/◌, ◌^◌, ◌≤◌, ◌<◌, min, length, drop, get_or, eqb}
-use Rattle.std.proofs.Common.{sym, ap₂, ◌∙◌, add-one, arith, drop_of_length-le, get_or-drop}
+use Rattle.std.proofs.Common.{sym, ap₂, ◌∙◌, append-nil, add-one, arith, drop_of_length-le, get_or-drop}
 use Rattle.std.proofs.Math.Bool.{and-true, and-false}
+use Rattle.std.proofs.lemmas.List.{length-replicate}
+use Rattle.std.proofs.Math.Seq.{paste, drop-length}
 use borrow.Author.Tests.{le-leb, lt-leb, le-ltb, lt-ltb, eq-eqb, ne_eqb}
-use Rattle.base.specs.Logic.{all, flat, sum_of, zeros, all_zero, ascending_from, sorted_from}
+use Rattle.base.specs.Logic.{all, flat, sum_of, overlay, zeros, all_zero, ascending_from, sorted_from}
 use Rattle.base.specs.Answers.{Taken}
+use Rattle.slices.specs.Laws.{paste-start}
 use Rattle.rows.specs.Table.{rows_of, table_of, holds_rows}
 use Rattle.rows.proofs.TableLaws.{length-rows_of, drop-row}
 use Rattle.rows.specs.Keys.{first_four, keys}
@@ -164,12 +167,24 @@ module _ (r : Nursery) (es ws cs : List ℕ) where
             rw (a, b, c, le-leb r.entries (min (length es / 8) (length ws / 5)) (omega arith))
 
 -- ---- an empty nursery: tables filled with zeros
-pub new-tables : (delay : ℕ) → delay_in_range delay ≡ true → (es ws cs : List ℕ)
+zeroed : (t : List ℕ) → paste t 0 (zeros (length t)) (length t) ≡ zeros (length t)
+unfolding overlay
+zeroed t =
+    paste-start t (zeros (length t)) (length t) (length-replicate {A = ℕ} (length t) 0)
+    ∙ rw (length-replicate {A = ℕ} (length t) 0, drop-length t) (append-nil (zeros (length t)))
+
+pub new-zeros : (delay : ℕ) → delay_in_range delay ≡ true → (es ws cs : List ℕ)
     → effect (record { answer = Taken; nursery = record { entries = 0; waiting = 0; cell_bytes = 0; delay = delay } }) (zeros (length es)) (zeros (length ws)) (zeros (length cs))
     ≡ new_call delay es ws cs
 unfolding laid record_of entries_table waiting_table cells_table table_of empty entry_rows cells_of cell_bytes flat sum_of
-new-tables delay ok es ws cs =
+new-zeros delay ok es ws cs =
     let a : length es - 0 * 8 ≡ length es = omega arith in
     let b : length ws - 0 * 5 ≡ length ws = omega arith in
     let d : length cs - 0 ≡ length cs = omega arith in
     rw (new-taken delay es ws cs ok, a, b, d)
+
+-- the same, where zeros are written over the tables
+pub new-tables : (delay : ℕ) → delay_in_range delay ≡ true → (es ws cs : List ℕ)
+    → effect (record { answer = Taken; nursery = record { entries = 0; waiting = 0; cell_bytes = 0; delay = delay } }) (paste es 0 (zeros (length es)) (length es)) (paste ws 0 (zeros (length ws)) (length ws)) (paste cs 0 (zeros (length cs)) (length cs))
+    ≡ new_call delay es ws cs
+new-tables delay ok es ws cs = rw (zeroed es, zeroed ws, zeroed cs) (new-zeros delay ok es ws cs)

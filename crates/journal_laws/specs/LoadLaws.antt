@@ -27,13 +27,13 @@ decode-read hash bs x b e =
     delta-read 2 _ _ (take (n - 16) (drop 56 bs)) x.delta (all_take (λ y. ltb y 256) (n - 16) (drop 56 bs) (all_drop (λ y. ltb y 256) 56 bs b)) (taken-lent hash bs x e).items
 
 -- ---- the states of a reading
-pub record LoadedAnswer (m : Room) (s : State) : Type 0 where
+pub record Loaded (m : Room) (s : State) : Type 0 where
   pub well : WellFormed s
   pub room : InRoom m.entries m.cells s
   pub waits : Waits [] s
 
 module _ (hash : List ℕ → List ℕ) (m : Room) where
-  loaded-after : (s t : State) (n : ℕ) (bs : List ℕ) → Bytes bs → apply_record hash m s bs ≡ taken (t, n) → LoadedAnswer m s → LoadedAnswer m t
+  loaded-after : (s t : State) (n : ℕ) (bs : List ℕ) → Bytes bs → apply_record hash m s bs ≡ taken (t, n) → Loaded m s → Loaded m t
   loaded-after s t n bs b e l =
       let (d, i, f, g) = (record-taken hash m s bs t n).0 e in
       let (ok, same) = taken-accepted m s d.delta t f in
@@ -46,11 +46,11 @@ module _ (hash : List ℕ → List ℕ) (m : Room) where
       })
 
   -- whatever ends it
-  pub journal-loaded : (bs : List ℕ) → Bytes bs → LoadedAnswer m (read_journal hash m bs).state
+  pub journal-loaded : (bs : List ℕ) → Bytes bs → Loaded m (read_journal hash m bs).state
   unfolding read_journal
   journal-loaded bs b =
-      let fresh : LoadedAnswer m empty = record { well = well-empty; room = room-empty m.entries m.cells; waits = waits-empty } in
-      (records-ends (apply_record hash m) (λ s records place rest. LoadedAnswer m s × Bytes rest)
+      let fresh : Loaded m empty = record { well = well-empty; room = room-empty m.entries m.cells; waits = waits-empty } in
+      (records-ends (apply_record hash m) (λ s records place rest. Loaded m s × Bytes rest)
       (λ s t n records place rest p e. (loaded-after s t n rest p.1 e p.0, all_drop (λ y. ltb y 256) (40 + n) rest p.1))
       empty 0 0 bs (fresh, b)).1.0
 

@@ -34,11 +34,31 @@ use Rattle.journal.specs.Journal.{records_from, scan, damages, damaged, apply_re
 use Rattle.journal.proofs.ReadLaws.{RecordRefused, record-refused, record-taken, records_in, records-taken, records-refused, same-records, read-bad, read-damaged}
 use Rattle.journal_laws.specs.DeltaLaws.{delta-read, delta-fits, taken-accepted}
 use Rattle.journal_laws.specs.EndLaws.{Reached, start, reached-next, undamaged-matches}
-use Rattle.journal_read.specs.Reading.{StepAnswer, len_beside, Stepped, stepped, beside, record_on, record_call, apply_held, read_on}
+use Rattle.journal_read.specs.Reading.{StepAnswer, Stepped, stepped, beside, told, record_on, record_call, apply_held, read_on}
 
-len-most : (a : Answer) (n : ℕ) → len_beside a n ≤ n
-len-most Taken n = omega arith
-len-most (Refused x) n = omega arith
+-- ---- what a function tells of what a record did
+-- all of it, where it is taken
+pub told-taken : (n : Nursery) (k : ℕ) (es ws cs : List ℕ) (z : Stepped) → stepped (record { answer = Taken; nursery = n; len = k }) es ws cs ≡ told z
+    → stepped (record { answer = Taken; nursery = n; len = k }) es ws cs ≡ z
+told-taken n k es ws cs z e = go z.result.answer z.result.nursery z.result.len z.entries z.waiting z.cells e
+  where
+    go : (a : Answer) (m : Nursery) (l : ℕ) (es' ws' cs' : List ℕ)
+        → stepped (record { answer = Taken; nursery = n; len = k }) es ws cs ≡ told (stepped (record { answer = a; nursery = m; len = l }) es' ws' cs')
+        → stepped (record { answer = Taken; nursery = n; len = k }) es ws cs ≡ stepped (record { answer = a; nursery = m; len = l }) es' ws' cs'
+    go Taken m l es' ws' cs' f = f
+    go (Refused y) m l es' ws' cs' f = absurd (not-refused (ap (λ (x : Stepped). x.result.answer) f))
+
+-- all but its length, where it is refused
+pub told-refused : (a : Refusal) (n : Nursery) (es ws cs : List ℕ) (z : Stepped) → stepped (record { answer = Refused a; nursery = n; len = 0 }) es ws cs ≡ told z
+    → stepped (record { answer = Refused a; nursery = n; len = z.result.len }) es ws cs ≡ z
+told-refused a n es ws cs z e = go z.result.answer z.result.nursery z.result.len z.entries z.waiting z.cells e
+  where
+    go : (b : Answer) (m : Nursery) (l : ℕ) (es' ws' cs' : List ℕ)
+        → stepped (record { answer = Refused a; nursery = n; len = 0 }) es ws cs ≡ told (stepped (record { answer = b; nursery = m; len = l }) es' ws' cs')
+        → stepped (record { answer = Refused a; nursery = n; len = l }) es ws cs ≡ stepped (record { answer = b; nursery = m; len = l }) es' ws' cs'
+    go Taken m l es' ws' cs' f = absurd (not-refused (sym (ap (λ (x : Stepped). x.result.answer) f)))
+    go (Refused y) m l es' ws' cs' f =
+        ap (λ (x : Stepped). stepped (record { answer = x.result.answer; nursery = x.result.nursery; len = l }) x.entries x.waiting x.cells) f
 
 -- ---- between two records
 -- a journal that is read on from what a record and tables hold
@@ -101,15 +121,14 @@ module _ (s : List ℕ) (r₀ : Nursery) (es₀ ws₀ cs₀ : List ℕ) where
 
       -- it ends in the journal, also where its delta is refused
       pub reach : place + q.len ≤ length s
-      unfolding record_call record_on laid_out
+      unfolding record_call record_on
       reach = go (decode hash rest) refl on-rest
         where
           go : (o : Outcome Decoding) → decode hash rest ≡ o → stepped q es' ws' cs' ≡ record_on r es ws cs o → place + q.len ≤ length s
           go (refused y) i f = let n : q.len ≡ 0 = ap (λ (z : Stepped). z.result.len) f in omega arith
           go (taken d) i f =
-              let n = ap (λ (z : Stepped). z.result.len) f in
-              let most = len-most (laid_out r.delay r es ws cs (apply_delta (room_of es ws cs) here d.delta)).result.answer (40 + d.stats.payload_bytes) in
-              omega (arith, n, most, (taken-lent hash rest d i).inside, length-drop place s)
+              let n : q.len ≡ 40 + d.stats.payload_bytes = ap (λ (z : Stepped). z.result.len) f in
+              omega (arith, (taken-lent hash rest d i).inside, length-drop place s)
 
       -- it was refused, or its delta was: nothing changed
       pub stopped : (a : Refusal) → q.answer ≡ Refused a → effect (record { answer = Taken; nursery = q.nursery; applied = applied; place = place; ended = q.answer }) es' ws' cs' ≡ read_on r₀ es₀ ws₀ cs₀ s

@@ -14,13 +14,13 @@ use Rattle.journal.specs.Journal as journal
 use Rattle.journal.specs.Journal.{records_from, apply_record, ReadIn, read_out}
 use Rattle.journal_read.specs.declared.Step.{Step}
 
--- what a record did: the nursery after it, and how many bytes it has, 0 where it or its delta is refused
+-- what a record did: the nursery after it, and how many bytes it has, 0 where it is refused
 pub record StepAnswer : Type 0 where
   pub answer : Answer
   pub nursery : Nursery
   pub len : ℕ
 
--- that, of what a function returns; beside a refusal the nursery is the one that was lent
+-- that, of what a function returns: beside a refusal, the delta's too, the nursery is the one that was lent, and no length is told
 abbrev pub as_step : Nursery → Result Step Refusal → StepAnswer
 as_step r (Ok q) = record { answer = Taken; nursery = q.nursery; len = q.len }
 as_step r (Err x) = record { answer = Refused x; nursery = r; len = 0 }
@@ -35,15 +35,10 @@ pub record Stepped : Type 0 where
 abbrev pub stepped : StepAnswer → List ℕ → List ℕ → List ℕ → Stepped
 stepped q es ws cs = record { result = q; entries = es; waiting = ws; cells = cs }
 
--- the length of a record, where its delta is taken
-abbrev pub len_beside : Answer → ℕ → ℕ
-len_beside Taken n = n
-len_beside (Refused x) n = 0
-
 -- what a delta did, beside the length of its record
 abbrev pub beside : ℕ → Changed → Stepped
 beside n c =
-    stepped (record { answer = c.result.answer; nursery = c.result.nursery; len = len_beside c.result.answer n }) c.entries c.waiting c.cells
+    stepped (record { answer = c.result.answer; nursery = c.result.nursery; len = n }) c.entries c.waiting c.cells
 
 unfoldable pub record_on : Nursery → List ℕ → List ℕ → List ℕ → Outcome Decoding → Stepped
 record_on r es ws cs (refused x) = beside 0 (laid_out r.delay r es ws cs (refused x))
@@ -53,6 +48,16 @@ record_on r es ws cs (taken d) =
 -- the record that bytes start with, its hash taken on trust, on the state that the tables hold
 unfoldable pub record_call : Nursery → List ℕ → List ℕ → List ℕ → List ℕ → Stepped
 record_call r es ws cs bs = record_on r es ws cs (decode (stated_hash bs) bs)
+
+-- the length of a record, where its delta is taken
+abbrev pub len_beside : Answer → ℕ → ℕ
+len_beside Taken n = n
+len_beside (Refused x) n = 0
+
+-- what a function tells of what a record did: no length beside a refusal
+abbrev pub told : Stepped → Stepped
+told z =
+    stepped (record { answer = z.result.answer; nursery = z.result.nursery; len = len_beside z.result.answer z.result.len }) z.entries z.waiting z.cells
 
 -- a record is applied, its hash taken on trust
 abbrev pub apply_held : Room → journal.Step State

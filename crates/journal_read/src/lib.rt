@@ -9,7 +9,7 @@ ghost use Rattle.blake3.specs.Mode.{mode_in, hash_from};
 ghost use Rattle.cell_nursery.specs.Layout.{holds};
 ghost use Rattle.journal.specs.Returned.{as_read};
 ghost use Rattle.journal.specs.Journal.{effect, read_call, read_under};
-ghost use Rattle.journal_read.specs.Reading.{as_step, stepped, record_call, read_on};
+ghost use Rattle.journal_read.specs.Reading.{as_step, stepped, told, record_call, read_on};
 
 use base::Refusal;
 use blake3::{Start, start_of};
@@ -35,7 +35,7 @@ fn apply_record(
     s: &[u8],
 ) -> Result<Step, Refusal>
     requires { holds r es.old ws.old cs.old ≡ true }
-    ensures { stepped (as_step r result) es.new ws.new cs.new ≡ record_call r es.old ws.old cs.old s.now }
+    ensures { stepped (as_step r result) es.new ws.new cs.new ≡ told (record_call r es.old ws.old cs.old s.now) }
 {
     let d = decode_record_held(s)?;
     let len = 56 + d.items_len;

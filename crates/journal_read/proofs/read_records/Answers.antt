@@ -10,16 +10,18 @@ use Rattle.slices.specs.ByteLaws.{U8}
 use Rattle.cell_nursery.specs.declared.Nursery.{Nursery}
 use Rattle.cell_nursery.specs.Held.{U64}
 use Rattle.journal_read.specs.declared.Step.{Step}
-use Rattle.journal_read.specs.Reading.{as_step, stepped, record_call}
-use Rattle.journal_read.specs.ReadLaws.{Reading, Applied, advanced, stopped, finished}
+use Rattle.base.specs.Answers.{Refused}
+use Rattle.journal_read.specs.Reading.{StepAnswer, as_step, stepped, told, record_call}
+use Rattle.journal_read.specs.ReadLaws.{told-taken, told-refused, Reading, Applied, advanced, stopped, finished}
 use Rattle.journal_read.proofs.read_records.Goals as goal
 
 -- the record at hand was applied
 turn : {s es₀ ws₀ cs₀ es ws cs es' ws' cs' : List ℕ} {r₀ r : Nursery} {applied place : ℕ} {q : Step} → Reading s r₀ es₀ ws₀ cs₀ r es ws cs applied place
-    → place < length s → U8 s → stepped (as_step r (Ok q)) es' ws' cs' ≡ record_call r es ws cs (take (length s - place) (drop place s)) → U64 es' → U64 ws'
+    → place < length s → U8 s → stepped (as_step r (Ok q)) es' ws' cs' ≡ told (record_call r es ws cs (take (length s - place) (drop place s))) → U64 es' → U64 ws'
     → Applied s r₀ es₀ ws₀ cs₀ q.nursery q.len es' ws' cs' applied place
 turn {s} {es₀} {ws₀} {cs₀} {es} {ws} {cs} {es'} {ws'} {cs'} {r₀} {r} {applied} {place} {q} x more u e v w =
-    advanced s r₀ es₀ ws₀ cs₀ r es ws cs applied place x more u (as_step r (Ok q)) es' ws' cs' e v w refl
+    let all = told-taken q.nursery q.len es' ws' cs' (record_call r es ws cs (take (length s - place) (drop place s))) e in
+    advanced s r₀ es₀ ws₀ cs₀ r es ws cs applied place x more u (as_step r (Ok q)) es' ws' cs' all v w refl
 
 pub loop-place-init : goal.loop-place-init
 loop-place-init c =
@@ -57,8 +59,11 @@ returns-in-Err c =
     let a = c.args in
     let l = c.loop-place in
     let q = c.apply_record in
+    let did = record_call l.nursery l.es l.ws l.cs (take (length a.s.now - l.place) (drop l.place a.s.now)) in
+    let step : StepAnswer = record { answer = Refused c.in-Err.why; nursery = l.nursery; len = did.result.len } in
+    let all = told-refused c.in-Err.why l.nursery q.new.es q.new.ws q.new.cs did c.in-Err.ensures in
     stopped a.s.now a.r a.es.now a.ws.now a.cs.now l.nursery l.es l.ws l.cs l.applied l.place l.invariant (omega (arith, c.loop-place.invariant.inside, c.if-place-s.false)) (λ i. (c.type_inv.s i).fits)
-    (as_step l.nursery (Err c.in-Err.why)) q.new.es q.new.ws q.new.cs c.in-Err.ensures c.in-Err.why refl
+    step q.new.es q.new.ws q.new.cs all c.in-Err.why refl
 
 pub returns-then-place-s : goal.returns-then-place-s
 returns-then-place-s c =
